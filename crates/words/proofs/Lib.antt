@@ -1,0 +1,5 @@
+pub mod Numbers
+pub mod Stores
+pub mod Zeros
+pub mod Records
+pub mod Parts

@@ -1,0 +1,23 @@
+-- `u32_at` meets its contract: the four bytes read are those that `leAt 4` names. Assumes nothing.
+use borrow.Author.Needs.{needs}
+use Rattle.words.specs.Le.{leAt}
+use Rattle.words.proofs.number.u32_at.Statement.{statement}
+use Rattle.words.proofs.number.u32_at.Tie as tie
+
+returns : tie.Need-returns
+unfolding leAt
+returns c = search needs
+
+pub u32-at-spec : {M : Type 1} → statement M
+u32-at-spec =
+    tie.close
+    (tie.spec
+    (λ c. search needs)
+    (λ c. search needs)
+    (λ c. search needs)
+    (λ c. search needs)
+    (λ c. search needs)
+    (λ c. search needs)
+    (λ c. search needs)
+    (λ c. λ κs. search needs)
+    returns)
