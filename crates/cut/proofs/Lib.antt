@@ -1,0 +1,4 @@
+pub mod Runs
+pub mod Steps
+pub mod Cut
+pub mod Fate
