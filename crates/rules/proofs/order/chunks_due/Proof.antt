@@ -1,0 +1,14 @@
+-- `chunks_due` meets its contract: none are left, or some. Assumes nothing.
+use borrow.Author.Tests.{eq-eqb, ne-eqb}
+use borrow.Author.Needs.{needs}
+use Rattle.rules.proofs.order.chunks_due.Statement.{statement}
+use Rattle.rules.proofs.order.chunks_due.Tie as tie
+
+returns : tie.Need-returns
+returns c = rw (eq-eqb _ _ (c .if1 .taken))
+
+returns-2 : tie.Need-returns-2
+returns-2 c = rw (c .before .plus64 .ensures, ne-eqb _ _ (c .if1 .left))
+
+pub chunks-due-spec : {M : Type 1} → statement M
+chunks-due-spec = tie.close (tie.spec (λ c. λ κs. search needs) returns returns-2)

@@ -1,0 +1,142 @@
+-- What is offered to a writer, and the record that it makes of it: the tag, the versions, reserved bytes and bookends are the writer's own.
+-- What a record offers again is beside it, so that what a reader hands out can be offered as it stands.
+use Prim.Native.Nat.{ℕ, _^_, _<_}
+use mathlib.Core.Bool.{Bool, false, _||_}
+use mathlib.Core.List.{List, [], _∷_}
+use lib.Dec.{eqb}
+use Rattle.words.specs.Le.{long, low, high}
+use Rattle.words.specs.Record.{IsHash, ones}
+use Rattle.words.specs.declared.Words.{Words}
+use Rattle.rules.specs.declared.Record.{Record}
+use Rattle.rules.specs.declared.Kind.{Kind}
+use Rattle.rules.specs.declared.Kind.the-variants as kind
+use Rattle.rules.specs.declared.Due.{Due}
+use Rattle.rules.specs.declared.Due.the-variants as due
+use Rattle.rules.specs.declared.Offer.{Offer}
+use Rattle.rules.specs.declared.Fields.{Fields}
+use Rattle.rules.specs.declared.Fields.the-variants.{Header, FileHead, Segment, Verification, Metadata, XorbHead, Chunk, SectionEnd, Footer}
+
+-- ## What an offer asks for
+
+-- the kind of record; the end of a section is a bookend
+abbrev pub kindBy : Fields → Kind
+kindBy (Header size) = kind.Header
+kindBy (FileHead flags entries) = kind.FileHead
+kindBy (Segment flags bytes start end) = kind.Segment
+kindBy Verification = kind.Verification
+kindBy Metadata = kind.Metadata
+kindBy (XorbHead flags entries bytes disk) = kind.XorbHead
+kindBy (Chunk start bytes) = kind.Chunk
+kindBy SectionEnd = kind.Bookend
+kindBy (Footer created expiry) = kind.Footer
+
+abbrev pub kindOffered : Offer → Kind
+kindOffered o = kindBy (o .fields)
+
+abbrev words : List ℕ → ℕ → ℕ → ℕ → ℕ → Words
+words hash a b c d = record { hash = hash; a = a; b = b; c = c; d = d }
+
+-- the numbers of the record; of a footer those at 72, where key, created and expiry stand
+abbrev pub wordsBy : Fields → List ℕ → List ℕ → Words
+wordsBy (Header size) tag hash = words tag 2 0 (low size) (high size)
+wordsBy (FileHead flags entries) tag hash = words hash flags entries 0 0
+wordsBy (Segment flags bytes start end) tag hash = words hash flags bytes start end
+wordsBy Verification tag hash = words hash 0 0 0 0
+wordsBy Metadata tag hash = words hash 0 0 0 0
+wordsBy (XorbHead flags entries bytes disk) tag hash = words hash flags entries bytes disk
+wordsBy (Chunk start bytes) tag hash = words hash start bytes 0 0
+wordsBy SectionEnd tag hash = words ones 0 0 0 0
+wordsBy (Footer created expiry) tag hash = words hash (low created) (high created) (low expiry) (high expiry)
+
+unfoldable pub wordsOf : List ℕ → Offer → Words
+wordsOf tag o = wordsBy (o .fields) tag (o .hash)
+
+-- the numbers of an offer are in their ranges; those of the code's types always are
+abbrev pub In64 : ℕ → Type 0
+In64 n = n < 2 ^ 64
+
+abbrev pub In32 : ℕ → Type 0
+In32 n = n < 2 ^ 32
+
+abbrev pub RangesBy : Fields → Type 0
+RangesBy (Header size) = In64 size
+RangesBy (FileHead flags entries) = In32 flags × In32 entries
+RangesBy (Segment flags bytes start end) = In32 flags × In32 bytes × In32 start × In32 end
+RangesBy Verification = Unit {0}
+RangesBy Metadata = Unit {0}
+RangesBy (XorbHead flags entries bytes disk) = In32 flags × In32 entries × In32 bytes × In32 disk
+RangesBy (Chunk start bytes) = In32 start × In32 bytes
+RangesBy SectionEnd = Unit {0}
+RangesBy (Footer created expiry) = In64 created × In64 expiry
+
+pub record InRange (o : Offer) : Type 0 where
+  pub hash : IsHash (o .hash)
+  pub fields : RangesBy (o .fields)
+
+-- ## What a record offers
+
+abbrev pub fieldsBy : Kind → Words → Fields
+fieldsBy kind.Header w = Header (long (w .c) (w .d))
+fieldsBy kind.FileHead w = FileHead (w .a) (w .b)
+fieldsBy kind.Segment w = Segment (w .a) (w .b) (w .c) (w .d)
+fieldsBy kind.Verification w = Verification
+fieldsBy kind.Metadata w = Metadata
+fieldsBy kind.XorbHead w = XorbHead (w .a) (w .b) (w .c) (w .d)
+fieldsBy kind.Chunk w = Chunk (w .a) (w .b)
+fieldsBy kind.Bookend w = SectionEnd
+fieldsBy kind.Footer w = Footer (long (w .a) (w .b)) (long (w .c) (w .d))
+
+unfoldable pub fieldsOf : Record → Fields
+fieldsOf r = fieldsBy (r .kind) (r .words)
+
+unfoldable pub offerOf : Record → Offer
+offerOf r = record { hash = r .words .hash; fields = fieldsOf r }
+
+-- ## What is due
+
+abbrev pub kindsDue : Due → List Kind
+kindsDue due.Header = kind.Header ∷ []
+kindsDue due.FileHead = kind.FileHead ∷ kind.Bookend ∷ []
+kindsDue (due.Segment left) = kind.Segment ∷ []
+kindsDue (due.Verification left) = kind.Verification ∷ []
+kindsDue due.Metadata = kind.Metadata ∷ []
+kindsDue due.XorbHead = kind.XorbHead ∷ kind.Bookend ∷ []
+kindsDue (due.Chunk left sum total) = kind.Chunk ∷ []
+kindsDue due.Footer = kind.Footer ∷ []
+kindsDue due.End = []
+kindsDue (due.Refused number) = []
+
+-- the rows of the paper's table, by number
+abbrev pub rowOf : Kind → ℕ
+rowOf kind.Header = 0
+rowOf kind.FileHead = 1
+rowOf kind.Segment = 2
+rowOf kind.Verification = 3
+rowOf kind.Metadata = 4
+rowOf kind.XorbHead = 5
+rowOf kind.Chunk = 6
+rowOf kind.Bookend = 7
+rowOf kind.Footer = 8
+
+abbrev pub sameKind : Kind → Kind → Bool
+sameKind k l = eqb (rowOf k) (rowOf l)
+
+abbrev pub among : Kind → List Kind → Bool
+among k [] = false
+among k (l ∷ ls) = sameKind k l || among k ls
+
+abbrev pub isDue : Due → Kind → Bool
+isDue d k = among k (kindsDue d)
+
+-- the number where a record is not due: 16, and to a writer begun with a bad tag 2 for everything
+abbrev pub notDue : Due → ℕ
+notDue due.Header = 16
+notDue due.FileHead = 16
+notDue (due.Segment left) = 16
+notDue (due.Verification left) = 16
+notDue due.Metadata = 16
+notDue due.XorbHead = 16
+notDue (due.Chunk left sum total) = 16
+notDue due.Footer = 16
+notDue due.End = 16
+notDue (due.Refused number) = number

@@ -1,0 +1,197 @@
+// The format: its types, and in code the rules that specs/Rules writes down. Reader, writer and finder all go by these.
+use words::Words;
+
+mod checks;
+mod offers;
+mod order;
+mod verdicts;
+
+pub use checks::further_records;
+ghost use mathlib.Core.Path.{_≡_};
+ghost use Prim.Native.Nat.{_<_};
+ghost use Rattle.rules.specs.Rules.{movedTo};
+
+// Kinds of number that are not exchangeable.
+pub struct Position(pub u64);
+
+pub struct FileNumber(pub u32);
+
+pub struct BlockNumber(pub u32);
+
+pub struct ChunkIndex(pub u32);
+
+impl Position {
+    // No shard goes past this position.
+    pub const LIMIT: u64 = 16777216;
+}
+
+// The rows of the paper's table.
+pub enum Kind {
+    Header,
+    FileHead,
+    Segment,
+    Verification,
+    Metadata,
+    XorbHead,
+    Chunk,
+    Bookend,
+    Footer,
+}
+
+// What is due: with the records of this kind that are left, and for chunks the sum so far and the head's bytes in xorb.
+pub enum Due {
+    Header,
+    FileHead,
+    Segment(u32),
+    Verification(u32),
+    Metadata,
+    XorbHead,
+    Chunk(u32, u64, u64),
+    Footer,
+    End,
+    Refused(u32),
+}
+
+pub struct Totals {
+    pub files: u64,
+    pub segments: u64,
+    pub xorbs: u64,
+    pub chunks: u64,
+    pub bytes: u64,
+}
+
+// A place in the format: where the record due starts, what the records before it said, and what is due.
+// `offset` is the xorb offset, 0 while it is not known; `flags` and `entries` are those of the last file head.
+pub struct Place {
+    pub at: Position,
+    pub offset: Position,
+    pub totals: Totals,
+    pub flags: u32,
+    pub entries: u32,
+    pub footer: bool,
+    pub due: Due,
+}
+
+impl Place {
+    // The place at another position, with other totals and something else due. (Its offset has 64 bits, as every field of its type.)
+    fn moved_to(self, at: u64, totals: Totals, due: Due) -> Place
+        ensures { λ r. ⌜ (r ≡ movedTo at totals due self) × (self .offset .0 < 18446744073709551616) ⌝ }
+    {
+        let offset = self.offset;
+        Place {
+            at: Position(at),
+            offset: offset,
+            totals: totals,
+            flags: self.flags,
+            entries: self.entries,
+            footer: self.footer,
+            due: due,
+        }
+    }
+}
+
+// A record as it is handed out. Of a footer, `words` holds key, created and expiry, and `offset` the xorb offset; elsewhere that is 0.
+pub struct Record {
+    pub at: Position,
+    pub offset: Position,
+    pub words: Words,
+    pub kind: Kind,
+}
+
+pub struct Refusal {
+    pub at: Position,
+    pub number: u32,
+}
+
+// The numbers of refusal.
+impl Refusal {
+    pub const ENDS_EARLY: u32 = 1;
+
+    pub const TAG_LENGTH: u32 = 2;
+
+    pub const TAG: u32 = 3;
+
+    pub const VERSION: u32 = 4;
+
+    pub const FOOTER_SIZE: u32 = 5;
+
+    pub const LIMIT: u32 = 6;
+
+    pub const RESERVED: u32 = 7;
+
+    pub const ALL_ONES: u32 = 8;
+
+    pub const BIT_31: u32 = 9;
+
+    pub const SEGMENT: u32 = 10;
+
+    pub const CHUNK_SUM: u32 = 11;
+
+    pub const FOOTER_VERSION: u32 = 12;
+
+    pub const OFFSET: u32 = 13;
+
+    pub const AFTER_END: u32 = 14;
+
+    pub const BUFFER: u32 = 15;
+
+    pub const NOT_DUE: u32 = 16;
+}
+
+// What is said of an accepted shard.
+pub struct Summary {
+    pub length: u64,
+    pub totals: Totals,
+    pub footer: bool,
+}
+
+pub enum Verdict {
+    Accepted(Summary),
+    Refused(Refusal),
+}
+
+// The paper's numbers for a verdict.
+pub struct Numbers {
+    pub refusal: Refusal,
+    pub summary: Summary,
+}
+
+// The numbers of a record as the paper's table names them, without those that a writer makes itself.
+pub enum Fields {
+    Header {
+        footer_size: u64,
+    },
+    FileHead {
+        flags: u32,
+        entries: u32,
+    },
+    Segment {
+        flags: u32,
+        bytes: u32,
+        start: u32,
+        end: u32,
+    },
+    Verification,
+    Metadata,
+    XorbHead {
+        flags: u32,
+        entries: u32,
+        bytes: u32,
+        disk: u32,
+    },
+    Chunk {
+        start: u32,
+        bytes: u32,
+    },
+    SectionEnd,
+    Footer {
+        created: u64,
+        expiry: u64,
+    },
+}
+
+// What is offered to a writer: a hash (of a footer its key) and numbers. A header and the end of a section have no hash; what stands there is not looked at.
+pub struct Offer {
+    pub hash: [u64; 4],
+    pub fields: Fields,
+}
