@@ -1,0 +1,120 @@
+-- One call of any reader takes no more than there is, and a refusal hands out nothing and stays, because a call has three cases
+-- (nothing is due, the piece is too short, it completes the record) and the place holds a refusal. Assumes nothing.
+use mathlib.Core.Path.{_≡_, refl, ap, _∙_, subst}
+use mathlib.Core.Bool.{Bool, true, false}
+use mathlib.Core.List.{List}
+use Prim.Native.Nat.{ℕ, zero, suc, _≤_, _<_}
+use native.Mathlib.Omega.{arith}
+use lib.Dec.{eqb, ltb}
+use lib.ListN.{length}
+use borrow.Author.Tests.{eq-eqb, ne-eqb, lt-ltb, le-ltb, eqb-true, ltb-true, ltb-false}
+use Rattle.words.specs.Checks.{pick}
+use Rattle.words.specs.declared.Words.{Words}
+use Rattle.rules.specs.Rules.{sizeBy, sizeOf, wordsIn, faultIn}
+use Rattle.rules.specs.Verdicts.{refusalAt, verdictBy, verdictAt}
+use Rattle.rules.specs.declared.Place.{Place}
+use Rattle.rules.specs.declared.Due.{Due}
+use Rattle.rules.specs.declared.Due.the-variants.{Refused}
+use Rattle.rules.specs.declared.Refusal.{Refusal}
+use Rattle.rules.specs.declared.Verdict.{Verdict}
+use Rattle.rules.specs.declared.Verdict.the-variants as verdict
+use Rattle.reader.specs.Stream.{noRecord, silent, settled, kept, stoppedBy, stopped, lacking, wholeIn, stepOf, verdictOf}
+use Rattle.reader.specs.Readings.{NoMoreTaken, RefusedClaim}
+use Rattle.reader.specs.declared.Reader.{Reader}
+use Rattle.reader.specs.declared.Said.{Said}
+use Rattle.reader.specs.declared.Said.the-variants as said
+use Rattle.reader.specs.declared.Step.{Step}
+
+-- ## The three cases
+
+abbrev pub completed : Reader → List ℕ → Step
+completed r piece = settled r (wordsIn (r .place) (wholeIn r piece)) (faultIn (r .tag) (r .place) (wholeIn r piece)) (lacking r)
+
+module _ (r : Reader) (piece : List ℕ) where
+  pub step-none : sizeOf (r .place) ≡ 0 → stepOf r piece ≡ stopped r (length piece)
+  unfolding stepOf
+  step-none e = simp (eq-eqb _ _ e)
+
+  pub step-kept : length piece < lacking r → stepOf r piece ≡ kept r piece
+  unfolding stepOf
+  step-kept l =
+      let z : sizeOf (r .place) ≡ 0 → ⊥ = λ e. omega arith in
+      rw (ne-eqb _ _ z, lt-ltb _ _ l)
+
+  pub step-completed : 0 < sizeOf (r .place) → lacking r ≤ length piece → stepOf r piece ≡ completed r piece
+  unfolding stepOf
+  step-completed k l =
+      let z : sizeOf (r .place) ≡ 0 → ⊥ = λ e. omega arith in
+      rw (ne-eqb _ _ z, le-ltb _ _ l)
+
+  -- what holds in each case holds of the call
+  by-case : (P : Step → Type 0) → (sizeOf (r .place) ≡ 0 → P (stopped r (length piece))) → (length piece < lacking r → P (kept r piece))
+      → (lacking r ≤ length piece → P (completed r piece)) → P (stepOf r piece)
+  unfolding stepOf
+  by-case P f g h = go (eqb (sizeOf (r .place)) 0) refl (ltb (length piece) (lacking r)) refl
+    where
+      go : (t : Bool) → eqb (sizeOf (r .place)) 0 ≡ t → (u : Bool) → ltb (length piece) (lacking r) ≡ u → P (pick t (stopped r (length piece)) (pick u (kept r piece) (completed r piece)))
+      go true e u i = f (eqb-true _ _ e)
+      go false e true i = g (ltb-true _ _ i)
+      go false e false i = h (ltb-false _ _ i)
+
+  -- ## Bytes taken
+
+  pub no-more : NoMoreTaken r piece
+  no-more = by-case (λ s. s .answer .taken ≤ length piece) (λ e. go (verdictAt (r .place)) (eqb (length piece) 0)) (λ l. omega arith) (λ l. l)
+    where
+      by : (t : Bool) (x y : Step) → x .answer .taken ≡ 0 → y .answer .taken ≡ 0 → pick t x y .answer .taken ≤ length piece
+      by true x y e f = omega (arith, e)
+      by false x y e f = omega (arith, f)
+
+      go : (v : Verdict) (t : Bool) → stoppedBy v r (length piece) .answer .taken ≤ length piece
+      go (verdict.Refused refusal) t = omega arith
+      go (verdict.Accepted summary) t = by (eqb (length piece) 0) _ _ refl refl
+
+  pub some-more : r .have < sizeOf (r .place) → 0 < length piece → 0 < stepOf r piece .answer .taken
+  some-more k l = by-case (λ s. 0 < s .answer .taken) (λ e. absurd (omega arith)) (λ m. l) (λ m. omega arith)
+
+  -- ## Refusals
+
+  pub again : (refusal : Refusal) → sizeOf (r .place) ≡ 0 → verdictAt (r .place) ≡ verdict.Refused refusal
+      → stepOf r piece ≡ record { reader = r; answer = silent 0 (said.Refused refusal) }
+  again refusal e v = step-none e ∙ ap (λ (x : Verdict). stoppedBy x r (length piece)) v
+
+-- the verdict of a place that holds a refusal, and of one at the end
+pub verdict-refused : (p : Place) (number : ℕ) → p .due ≡ Refused number → verdictAt p ≡ verdict.Refused (refusalAt number p)
+unfolding verdictAt
+verdict-refused p number e = ap (λ (d : Due). verdictBy d p) e
+
+-- what a call that refuses leaves
+abbrev LeftBy : Said → Step → Type 0
+LeftBy said.Nothing s = Unit {0}
+LeftBy said.Record s = Unit {0}
+LeftBy (said.Refused refusal) s = (s .answer .found ≡ noRecord) × (sizeOf (s .reader .place) ≡ 0) × (verdictAt (s .reader .place) ≡ verdict.Refused refusal)
+
+left-settled : (r : Reader) (w : Words) (number taken : ℕ) → LeftBy (settled r w number taken .answer .said) (settled r w number taken)
+unfolding verdictAt
+left-settled r w zero taken = tt
+left-settled r w (suc n) taken = rw (ne-eqb (suc n) 0 (λ e. omega arith)) (refl, refl, refl)
+
+left-stopped : (r : Reader) (n : ℕ) (v : Verdict) → sizeOf (r .place) ≡ 0 → verdictAt (r .place) ≡ v → LeftBy (stoppedBy v r n .answer .said) (stoppedBy v r n)
+unfolding verdictAt
+left-stopped r n (verdict.Refused refusal) e v = (refl, e, v)
+left-stopped r zero (verdict.Accepted summary) e v = tt
+left-stopped r (suc n) (verdict.Accepted summary) e v = rw (ne-eqb (suc n) 0 (λ e. omega arith)) (refl, refl, refl)
+
+left : (r : Reader) (piece : List ℕ) → LeftBy (stepOf r piece .answer .said) (stepOf r piece)
+left r piece =
+    by-case r piece (λ s. LeftBy (s .answer .said) s) (λ e. left-stopped r (length piece) (verdictAt (r .place)) e refl) (λ l. tt)
+    (λ l. left-settled r (wordsIn (r .place) (wholeIn r piece)) (faultIn (r .tag) (r .place) (wholeIn r piece)) (lacking r))
+
+pub refuses : (r : Reader) (piece : List ℕ) → RefusedClaim r piece
+unfolding verdictOf
+refuses r piece = record {
+  none = λ refusal e. told refusal e .0;
+  verdict = λ refusal e. told refusal e .2;
+  stays = λ refusal e later. again (stepOf r piece .reader) later refusal (told refusal e .1) (told refusal e .2);
+  again = λ number e. again r piece (refusalAt number (r .place)) (ap sizeBy e) (verdict-refused (r .place) number e);
+}
+  where
+    told : (refusal : Refusal) → stepOf r piece .answer .said ≡ said.Refused refusal → LeftBy (said.Refused refusal) (stepOf r piece)
+    told refusal e = subst (λ (x : Said). LeftBy x (stepOf r piece)) e (left r piece)

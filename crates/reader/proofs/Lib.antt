@@ -1,0 +1,8 @@
+pub mod Sizes
+pub mod Carry
+pub mod Calls
+pub mod Bridge
+pub mod Reached
+pub mod Cut
+pub mod Whole
+pub mod Theorem

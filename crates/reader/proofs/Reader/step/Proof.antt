@@ -1,0 +1,44 @@
+-- `step` meets its contract: what is due and the length of the piece decide, in the order of the definition. Assumes nothing.
+use mathlib.Core.Path.{sym, _∙_}
+use borrow.Author.Tests.{eq-eqb, ne-eqb, lt-ltb, le-ltb}
+use Rattle.reader.specs.Stream.{stepOf}
+use borrow.Author.Needs.{needs}
+use Rattle.reader.proofs.Reader.step.Statement.{statement}
+use Rattle.reader.proofs.Reader.step.Tie as tie
+
+returns : tie.Need-returns
+unfolding stepOf
+returns c = rw (c .stop .ensures, eq-eqb _ _ (sym (c .before .before .size .ensures) ∙ c .before .if1 .taken))
+
+returns-2 : tie.Need-returns-2
+unfolding stepOf
+returns-2 c =
+    let c1 = c .before in
+    let c2 = c1 .before in
+    let c3 = c2 .before in
+    let c4 = c3 .before in
+    rw (c .keep .ensures, ne-eqb _ _ (λ e. c3 .if1 .left (c4 .size .ensures ∙ e)), lt-ltb _ _ (rw (c2 .missing .ensures, c4 .size .ensures) at (c1 .if2 .taken)))
+
+returns-3 : tie.Need-returns-3
+unfolding stepOf
+returns-3 c =
+    let c1 = c .before in
+    let c2 = c1 .before in
+    let c3 = c2 .before in
+    let c4 = c3 .before in
+    let c5 = c4 .before in
+    rw (ne-eqb _ _ (λ e. c4 .if1 .left (c5 .size .ensures ∙ e)), le-ltb _ _ (rw (c3 .missing .ensures, c5 .size .ensures) at (c2 .if2 .left)), c .settle .ensures, c1 .hear .ensures .0, c1 .hear .ensures .1, c3 .missing .ensures, c5 .size .ensures)
+
+pub step-spec : {M : Type 1} → statement M
+step-spec =
+    tie.close
+    (tie.spec
+    (λ c. λ κs. search needs)
+    (λ c. λ κs. search needs)
+    returns
+    (λ c. λ κs. search needs)
+    (λ c. λ κs. search needs)
+    returns-2
+    (λ c. λ κs. search needs)
+    (λ c. λ κs. search needs)
+    returns-3)

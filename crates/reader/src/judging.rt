@@ -1,0 +1,107 @@
+// The judge of a whole shard in a lent buffer: record by record, straight from the buffer, with no carry.
+use crate::steps::start_for;
+use rules::Place;
+use rules::Refusal;
+use rules::Verdict;
+use words::Footer;
+use words::Words;
+use words::hash::hash_at;
+ghost use mathlib.Core.Path.{_≡_};
+ghost use mathlib.Core.Bool.{true};
+ghost use Prim.Native.Nat.{_≤_};
+ghost use lib.Dec.{eqb};
+ghost use lib.ListN.{length};
+ghost use Rattle.words.specs.Checks.{pick};
+ghost use Rattle.rules.specs.Verdicts.{refused};
+ghost use Rattle.layout.specs.Scan.{foundIn};
+ghost use Rattle.layout.specs.Reach.{lastPlace};
+ghost use Rattle.reader.specs.Whole.{turnAfter, turnOf};
+
+// One turn over the buffer: the place after it, and whether reading is over there.
+struct Turn {
+    place: Place,
+    over: bool,
+}
+
+// The verdict on a whole shard.
+pub fn judge(tag: &[u8], shard: &[u8]) -> Verdict
+    ensures { λ r. ⌜ r ≡ foundIn (now (tag .entry)) (now (shard .entry)) .verdict ⌝ }
+{
+    let place = last_place(tag, shard);
+    place.verdict()
+}
+
+// The place where reading a whole shard ends: behind its last record, or where it is refused or breaks off.
+pub fn last_place(tag: &[u8], shard: &[u8]) -> Place
+    ensures { λ r. ⌜ r ≡ lastPlace (now (tag .entry)) (now (shard .entry)) ⌝ }
+{
+    let mut place = start_for(tag);
+    if tag.len() != 32 {
+        return place;
+    }
+    let four = hash_at(tag, 0);
+    loop {
+        let turn = turn_at(four, shard, place);
+        let next = turn.place;
+        place = next;
+        if turn.over {
+            return place;
+        }
+    }
+}
+
+// The record due at a place of the buffer, read where it stands. At a refusal reading is over, so none is met here.
+fn turn_at(four: [u64; 4], shard: &[u8], place: Place) -> Turn
+    requires { ⌜ place .at .0 ≤ length (now shard) ⌝ }
+    ensures { λ r. ⌜ (r .place ≡ turnOf four (now (shard .entry)) place .place) × (r .over ≡ turnOf four (now (shard .entry)) place .over) ⌝ }
+{
+    let due = place.due;
+    let position = place.at;
+    let size = due.size();
+    let at = position.0 as usize;
+    let left = shard.len() - at;
+    if size == 0 {
+        return end_at(place, left);
+    }
+    if left < size {
+        return Turn { place, over: true };
+    }
+    if size == Footer::SIZE {
+        let f = Footer::read(shard, at);
+        let w = f.words;
+        return turn_after(place, place.footer_fault(f), w);
+    }
+    let w = Words::read(shard, at);
+    turn_after(place, place.fault(four, w), w)
+}
+
+// Nothing is due: a byte after the end is refused.
+fn end_at(place: Place, left: usize) -> Turn
+    ensures { λ r. ⌜ (r .place ≡ pick (eqb left 0) place (refused 14 place)) × (r .over ≡ true) ⌝ }
+{
+    if left == 0 {
+        Turn { place, over: true }
+    } else {
+        Turn {
+            place: place.refuse(Refusal::AFTER_END),
+            over: true,
+        }
+    }
+}
+
+// After a whole record: reading goes on behind it, or has stopped.
+fn turn_after(place: Place, number: u32, w: Words) -> Turn
+    ensures { λ r. ⌜ (r .place ≡ turnAfter place number w .place) × (r .over ≡ turnAfter place number w .over) ⌝ }
+{
+    if number == 0 {
+        Turn {
+            place: place.next(w),
+            over: false,
+        }
+    } else {
+        Turn {
+            place: place.refuse(number),
+            over: true,
+        }
+    }
+}

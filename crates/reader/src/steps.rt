@@ -1,0 +1,272 @@
+// The reader by value: one call takes at most what is missing from the record due, and a record is judged once all its bytes are there.
+use crate::Answer;
+use crate::Reader;
+use crate::Said;
+use crate::Step;
+use rules::Kind;
+use rules::Place;
+use rules::Position;
+use rules::Record;
+use rules::Refusal;
+use rules::Verdict;
+use words::Footer;
+use words::Words;
+use words::hash::hash_at;
+ghost use mathlib.Core.Path.{_≡_};
+ghost use Prim.Native.Nat.{_-_, _≤_, _<_};
+ghost use lib.ListN.{length};
+ghost use lib.Seq.{paste};
+ghost use Rattle.words.specs.Record.{wordsAt};
+ghost use Rattle.rules.specs.Rules.{sizeOf, wordsIn, faultIn};
+ghost use Rattle.reader.specs.Stream.{startFor, emptied, fresh, silent, placeAfter, recordAfter, saidAfter, settled, kept, stopped, stepOf, verdictOf};
+
+// What the bytes of a whole record say: its numbers, and the number of the refusal, 0 if it is good.
+struct Heard {
+    words: Words,
+    number: u32,
+}
+
+struct Sequel {
+    place: Place,
+    found: Record,
+    said: Said,
+}
+
+const NO_RECORD: Record = Record {
+    at: Position(0),
+    offset: Position(0),
+    words: Words {
+        hash: [0; 4],
+        a: 0,
+        b: 0,
+        c: 0,
+        d: 0,
+    },
+    kind: Kind::Header,
+};
+
+// Where reading begins. A tag that is not 32 bytes is refused with 2.
+pub fn start_for(tag: &[u8]) -> Place
+    ensures { λ r. ⌜ r ≡ startFor (now (tag .entry)) ⌝ }
+{
+    let start = Place::START;
+    if tag.len() == 32 {
+        start
+    } else {
+        start.refuse(Refusal::TAG_LENGTH)
+    }
+}
+
+// What follows a whole record: it is handed out and reading goes on behind it, or reading has stopped.
+fn after(p: Place, number: u32, w: Words) -> Sequel
+    ensures { λ r. ⌜ (r .place ≡ placeAfter p number w) × (r .found ≡ recordAfter p number w) × (r .said ≡ saidAfter p number) ⌝ }
+{
+    if number == 0 {
+        Sequel {
+            place: p.next(w),
+            found: p.record(w),
+            said: Said::Record,
+        }
+    } else {
+        Sequel {
+            place: p.refuse(number),
+            found: NO_RECORD,
+            said: Said::Refused(p.refusal(number)),
+        }
+    }
+}
+
+// The carry with n bytes of the piece behind what it has.
+fn filled(carry: [u8; 200], have: usize, piece: &[u8], n: usize) -> [u8; 200]
+    requires { ⌜ (n ≤ 200 - have) × (n ≤ length (now piece)) ⌝ }
+    ensures { λ r. ⌜ r ≡ paste carry have (now (piece .entry)) n ⌝ }
+{
+    let mut c = carry;
+    let mut i = 0;
+    while i < n {
+        c[have + i] = piece[i];
+        i += 1;
+    }
+    c
+}
+
+fn missing(size: usize, have: usize) -> usize
+    ensures { λ r. ⌜ r ≡ size - have ⌝ }
+{
+    if have < size { size - have } else { 0 }
+}
+
+// A call that takes nothing and hands out nothing.
+fn silence(said: Said) -> Answer
+    ensures { λ r. ⌜ r ≡ silent 0 said ⌝ }
+{
+    Answer {
+        taken: 0,
+        found: NO_RECORD,
+        said: said,
+    }
+}
+
+impl Reader {
+    // A fresh reader.
+    pub fn new(tag: &[u8]) -> Reader
+        ensures { λ r. ⌜ r ≡ fresh (now (tag .entry)) ⌝ }
+    {
+        let place = start_for(tag);
+        if tag.len() == 32 {
+            Reader::empty(hash_at(tag, 0), place)
+        } else {
+            Reader::empty([0; 4], place)
+        }
+    }
+
+    // A reader with nothing in its carry.
+    fn empty(tag: [u64; 4], place: Place) -> Reader
+        ensures { λ r. ⌜ r ≡ emptied tag place ⌝ }
+    {
+        Reader {
+            carry: [0; 200],
+            have: 0,
+            tag: tag,
+            place: place,
+        }
+    }
+
+    // The refusal if there was one, done after the end, else 1 at the record due. It changes nothing.
+    pub fn verdict(self) -> Verdict
+        ensures { λ r. ⌜ r ≡ verdictOf self ⌝ }
+    {
+        let place = self.place;
+        place.verdict()
+    }
+
+    // One call: it takes the smaller of the piece's length and the bytes missing from the record due.
+    pub fn step(self, piece: &[u8]) -> Step
+        ensures { λ r. ⌜ r ≡ stepOf self (now (piece .entry)) ⌝ }
+    {
+        let place = self.place;
+        let due = place.due;
+        let size = due.size();
+        if size == 0 {
+            return self.stop(piece.len());
+        }
+        let lacks = missing(size, self.have);
+        if piece.len() < lacks {
+            return self.keep(piece);
+        }
+        let heard = self.hear(piece, lacks);
+        self.settle(heard.words, heard.number, lacks)
+    }
+
+    // What the bytes in the carry and the first of the piece say.
+    fn hear(self, piece: &[u8], lacks: usize) -> Heard
+        requires { ⌜ (lacks ≡ sizeOf (self .place) - self .have) × (lacks ≤ length (now piece)) × (0 < sizeOf (self .place)) ⌝ }
+        ensures { λ r. ⌜ (r .words ≡ wordsIn (self .place) (paste (self .carry) (self .have) (now (piece .entry)) lacks)) × (r .number ≡ faultIn (self .tag) (self .place) (paste (self .carry) (self .have) (now (piece .entry)) lacks)) ⌝ }
+    {
+        let place = self.place;
+        let tag = self.tag;
+        let carry = self.carry;
+        let have = self.have;
+        let due = place.due;
+        if due.size() == Footer::SIZE {
+            let c = filled(carry, have, piece, lacks);
+            let f = Footer::read(&c, 0);
+            let w = f.words;
+            return Heard {
+                words: w,
+                number: place.footer_fault(f),
+            };
+        }
+        let w = words_of(carry, have, piece, lacks);
+        Heard {
+            words: w,
+            number: place.fault(tag, w),
+        }
+    }
+
+    // A whole record, good or faulty: all of the carry is zero after it.
+    fn settle(self, w: Words, number: u32, taken: usize) -> Step
+        ensures { λ r. ⌜ r ≡ settled self w number taken ⌝ }
+    {
+        let place = self.place;
+        let tag = self.tag;
+        let sequel = after(place, number, w);
+        let next = sequel.place;
+        let found = sequel.found;
+        let said = sequel.said;
+        Step {
+            reader: Reader::empty(tag, next),
+            answer: Answer {
+                taken: taken,
+                found: found,
+                said: said,
+            },
+        }
+    }
+
+    // Fewer bytes than are missing: they are kept.
+    fn keep(self, piece: &[u8]) -> Step
+        requires { ⌜ length (now piece) < sizeOf (self .place) - self .have ⌝ }
+        ensures { λ r. ⌜ r ≡ kept self (now (piece .entry)) ⌝ }
+    {
+        let place = self.place;
+        let tag = self.tag;
+        let carry = self.carry;
+        let have = self.have;
+        let n = piece.len();
+        Step {
+            reader: Reader {
+                carry: filled(carry, have, piece, n),
+                have: have + n,
+                tag: tag,
+                place: place,
+            },
+            answer: Answer {
+                taken: n,
+                found: NO_RECORD,
+                said: Said::Nothing,
+            },
+        }
+    }
+
+    // After the end or a refusal: a byte after the end is refused with 14, and a refusal is repeated.
+    fn stop(self, length: usize) -> Step
+        ensures { λ r. ⌜ r ≡ stopped self length ⌝ }
+    {
+        let place = self.place;
+        let tag = self.tag;
+        let verdict = place.verdict();
+        match verdict {
+            Verdict::Refused(refusal) => Step {
+                reader: self,
+                answer: silence(Said::Refused(refusal)),
+            },
+            Verdict::Accepted(_) => {
+                if length == 0 {
+                    Step {
+                        reader: self,
+                        answer: silence(Said::Nothing),
+                    }
+                } else {
+                    Step {
+                        reader: Reader::empty(tag, place.refuse(Refusal::AFTER_END)),
+                        answer: silence(Said::Refused(place.refusal(Refusal::AFTER_END))),
+                    }
+                }
+            }
+        }
+    }
+}
+
+// The numbers of a record of 48 bytes, straight from the piece where nothing is carried.
+fn words_of(carry: [u8; 200], have: usize, piece: &[u8], lacks: usize) -> Words
+    requires { ⌜ (lacks ≡ 48 - have) × (lacks ≤ length (now piece)) ⌝ }
+    ensures { λ r. ⌜ r ≡ wordsAt (paste carry have (now (piece .entry)) lacks) 0 ⌝ }
+{
+    if have == 0 {
+        Words::read(piece, 0)
+    } else {
+        let c = filled(carry, have, piece, lacks);
+        Words::read(&c, 0)
+    }
+}
