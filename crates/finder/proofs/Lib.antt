@@ -1,0 +1,9 @@
+pub mod Part
+pub mod Standing
+pub mod Sections
+pub mod ChunkWalk
+pub mod FileWalk
+pub mod Begin
+pub mod Firsts
+pub mod ChunkClaims
+pub mod FileClaims
