@@ -1,0 +1,17 @@
+-- `chunk_out` meets its contract: what was found has three cases. Assumes nothing.
+use borrow.Author.Needs.{needs}
+use Rattle.host.proofs.founds.chunk_out.Statement.{statement}
+use Rattle.host.proofs.founds.chunk_out.Tie as tie
+
+returns : tie.Need-returns
+returns c = rw (c .before .f .given .1)
+
+returns-2 : tie.Need-returns-2
+returns-2 c = rw (c .enum-told .given .1)
+
+returns-3 : tie.Need-returns-3
+returns-3 c = rw (c .before .f2 .given .1)
+
+pub chunk-out-spec : {M : Type 1} → statement M
+chunk-out-spec =
+    tie.close (tie.spec (λ c. search needs) (λ c. search needs) (λ c. search needs) returns returns-2 returns-3)

@@ -1,0 +1,4 @@
+pub mod Boundary
+pub mod Tables
+pub mod Claims
+pub mod Founds

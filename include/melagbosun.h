@@ -1,0 +1,192 @@
+/* Shards read and written, for C. Link target/staticlib/libhost.a (x86-64), made by `rt staticlib host`.
+ *
+ * No call keeps, allocates or frees anything: a state goes in by value and the next one comes back in the answer. A lent
+ * slice is a pointer and a length; an empty one may have any pointer but NULL, and two lent to one call do not overlap.
+ *
+ * Each function is proved to answer, for every state and all bytes, what crates/host/specs says. A state that
+ * was not given out by these functions still gets an answer and touches nothing but the lent bytes.
+ */
+#ifndef MELAGBOSUN_H
+#define MELAGBOSUN_H
+
+#include <stddef.h>
+#include <stdint.h>
+
+#ifdef __cplusplus
+extern "C" {
+#endif
+
+/* Why a shard, a tag or an offer was refused. Unless another is named, the position is that where the record starts. */
+enum mdb_refusal {
+    MDB_ENDS_EARLY = 1,      /* the input ends inside or before a record still due */
+    MDB_TAG_LENGTH = 2,      /* the tag is not 32 bytes; position 0 */
+    MDB_TAG = 3,             /* header: another tag */
+    MDB_VERSION = 4,         /* header: the version is not 2 */
+    MDB_FOOTER_SIZE = 5,     /* header: the footer size is neither 0 nor 200 */
+    MDB_LIMIT = 6,           /* a head declares more than 16777216 bytes hold */
+    MDB_RESERVED = 7,        /* a reserved byte or an unnamed flag bit is not 0 */
+    MDB_ALL_ONES = 8,        /* a hash of all ones at a head, with a tail that is not zero; writer: any such hash offered in a head */
+    MDB_BIT_31 = 9,          /* bit 31 of a file's flags differs from the first file's */
+    MDB_SEGMENT = 10,        /* a segment's chunk start is not below its chunk end */
+    MDB_CHUNK_SUM = 11,      /* chunks do not follow each other, or do not sum to the head's bytes in xorb */
+    MDB_FOOTER_VERSION = 12, /* footer: the version is not 1 */
+    MDB_OFFSET = 13,         /* footer: one of the three offsets is wrong */
+    MDB_AFTER_END = 14,      /* a byte follows the end; position of that byte */
+    MDB_BUFFER = 15,         /* writer: the buffer is shorter than the record; mdb_reader_read: the table is shorter than a row */
+    MDB_NOT_DUE = 16         /* writer: this kind of record is not due now, or there is no such kind */
+};
+
+/* The kinds of record, in the order of the paper's table. */
+enum mdb_kind {
+    MDB_HEADER, MDB_FILE_HEAD, MDB_SEGMENT_ROW, MDB_VERIFICATION, MDB_METADATA, MDB_XORB_HEAD, MDB_CHUNK, MDB_BOOKEND, MDB_FOOTER
+};
+
+/* What a call of the reader says. */
+enum mdb_said { MDB_NOTHING, MDB_RECORD, MDB_REFUSED };
+
+typedef struct {
+    uint64_t files, segments, xorbs, chunks;
+    uint64_t bytes; /* the sum of all segments' unpacked bytes */
+} mdb_totals;
+
+typedef struct {
+    uint64_t sum, total; /* of a chunk: the bytes before it, and the head's bytes in xorb */
+    uint32_t code; /* 0 header, 1 file head, 2 segment, 3 verification, 4 metadata, 5 xorb head, 6 chunk, 7 footer, 8 the end, 9 refused */
+    uint32_t left; /* the records of this kind that are left; of a refusal its number */
+} mdb_due;
+
+typedef struct {
+    uint64_t at;     /* where the record due starts */
+    uint64_t offset; /* the byte after the first bookend, 0 before it */
+    mdb_totals totals;
+    mdb_due due;
+    uint32_t flags, entries; /* those of the last file head */
+    uint32_t footer;         /* 1 if the header announces a footer, else 0 */
+} mdb_place;
+
+typedef struct {
+    uint8_t carry[200]; /* the bytes so far of the record due, then zeros */
+    uint64_t tag[4];
+    uint64_t have; /* how many bytes the carry has */
+    mdb_place place;
+} mdb_reader;
+
+typedef struct {
+    uint64_t tag[4];
+    mdb_place place;
+} mdb_writer;
+
+typedef struct {
+    uint64_t hash[4]; /* of a footer its key */
+    uint64_t at;      /* where the record starts */
+    uint64_t offset;  /* of a footer the xorb offset, else 0 */
+    uint32_t kind;    /* enum mdb_kind */
+    uint32_t a, b, c, d; /* the numbers behind the hash; of a footer created (a low, b high) and expiry (c low, d high) */
+} mdb_record;
+
+typedef struct {
+    uint64_t length;   /* of an accepted shard; 0 if refused, and so are totals and footer */
+    mdb_totals totals;
+    uint64_t at;       /* position of the refusal */
+    uint32_t number;   /* enum mdb_refusal; 0: accepted */
+    uint32_t footer;   /* 1 if there is a footer */
+} mdb_verdict;
+
+typedef struct {
+    mdb_reader reader; /* for the next call */
+    mdb_record found;  /* all zeros unless said is MDB_RECORD */
+    uint64_t taken;    /* bytes taken of the piece: offer the rest again */
+    uint64_t at;       /* position of the refusal, else 0 */
+    uint32_t said;     /* enum mdb_said */
+    uint32_t number;   /* enum mdb_refusal, else 0 */
+} mdb_step;
+
+typedef struct {
+    mdb_reader reader; /* for the next call */
+    uint64_t taken;    /* bytes taken of the piece */
+    uint64_t count;    /* rows filled, from the table's start */
+    uint64_t at;       /* position of the refusal, else 0 */
+    uint32_t said;     /* MDB_NOTHING: the piece is used up; MDB_RECORD: the table is full, offer the rest again; MDB_REFUSED */
+    uint32_t number;   /* enum mdb_refusal, else 0 */
+} mdb_read;
+
+typedef struct {
+    uint64_t numbers[4];
+} mdb_hash;
+
+/* What finding gives. said: 0 absent, 1 found, 2 refused; at: the position of what was found, or of the refusal. */
+typedef struct {
+    uint64_t at;
+    uint32_t said, number;
+    uint32_t block, index; /* xorb block number and chunk index in it, from 0 */
+} mdb_found_chunk;
+
+typedef struct {
+    uint64_t at;
+    uint32_t said, number;
+    uint32_t file; /* file number, from 0 */
+} mdb_found_file;
+
+/* What is offered to a writer, which makes tag, versions, reserved bytes, bookends and footer offsets itself.
+ *   header        x footer size, 0 or 200
+ *   file head     hash, a flags, b entries
+ *   segment       hash, a flags, b unpacked bytes, c chunk start, d chunk end
+ *   verification  hash
+ *   metadata      hash
+ *   xorb head     hash, a flags, b entries, c bytes in xorb, d bytes on disk
+ *   chunk         hash, a byte start, b unpacked bytes
+ *   bookend       (the end of a section)
+ *   footer        hash (the key), x created, y expiry
+ * What is not named here is not looked at. */
+typedef struct {
+    uint64_t hash[4];
+    uint64_t x, y;
+    uint32_t kind; /* enum mdb_kind */
+    uint32_t a, b, c, d;
+} mdb_offer;
+
+typedef struct {
+    mdb_writer writer; /* for the next call; as it was if refused */
+    uint64_t wrote;    /* bytes written at the start of the buffer; 0: refused, and no byte changed */
+    uint64_t at;       /* position of the refusal, else 0 */
+    uint32_t number;   /* enum mdb_refusal, else 0 */
+} mdb_written;
+
+/* The verdict on a whole shard. */
+mdb_verdict mdb_judge(const uint8_t *tag, size_t tag_length, const uint8_t *shard, size_t length);
+
+/* The first chunk, and the first file, with that hash. A refused shard gives its refusal. */
+mdb_found_chunk mdb_find_chunk(const uint8_t *tag, size_t tag_length, const uint8_t *shard, size_t shard_length, mdb_hash hash);
+mdb_found_file mdb_find_file(const uint8_t *tag, size_t tag_length, const uint8_t *shard, size_t shard_length, mdb_hash hash);
+
+/* A fresh reader. A tag that is not 32 bytes gives one that has refused with 2. */
+mdb_reader mdb_reader_new(const uint8_t *tag, size_t length);
+
+/* One call: it takes the smaller of the piece's length and the bytes missing from the record due, and hands out at most one
+ * record. After a refusal every call takes nothing and repeats it. */
+mdb_step mdb_reader_step(mdb_reader state, const uint8_t *piece, size_t length);
+
+/* A whole piece: calls of mdb_reader_step until it is used up or refused or the table is full. Each record found fills a row of
+ * MDB_ROW numbers: kind, at, offset, hash[0] to hash[3], a + 2^32 b, c + 2^32 d. No other number of the table changes. `length`
+ * and `numbers` count the piece's bytes and the table's numbers. A table shorter than a row is refused with 15 where the
+ * reader stands; that reader has not refused, and nothing was taken. */
+enum { MDB_ROW = 9 };
+mdb_read mdb_reader_read(mdb_reader state, const uint8_t *piece, size_t length, uint64_t *table, size_t numbers);
+
+/* The refusal if there was one, the counts after the end, else 1 at the record due. Asking changes nothing. */
+mdb_verdict mdb_reader_verdict(mdb_reader state);
+
+/* A fresh writer. A tag that is not 32 bytes gives one that answers 2 to everything. */
+mdb_writer mdb_writer_new(const uint8_t *tag, size_t length);
+
+/* One record, at the start of the buffer. Only the record's own bytes change. */
+mdb_written mdb_writer_put(mdb_writer state, mdb_offer offer, uint8_t *buffer, size_t length);
+
+/* The reader's verdict where the writer stands. */
+mdb_verdict mdb_writer_verdict(mdb_writer state);
+
+#ifdef __cplusplus
+}
+#endif
+
+#endif
