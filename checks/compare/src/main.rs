@@ -1,0 +1,100 @@
+//! `compare N SEED`: N generated inputs, given to the independent reader and to the proved library. Nothing may differ.
+
+mod read;
+mod same;
+mod write;
+
+use checks::cases::{random_case, Case};
+use checks::generate::Rng;
+use std::env;
+use std::process::ExitCode;
+
+/// What two readers or a writer did differently.
+pub type Checked = Result<(), String>;
+
+/// How often each number was seen, 0 being acceptance.
+#[derive(Default)]
+pub struct Seen {
+    read: [u64; 17],
+    written: [u64; 17],
+    records: u64,
+    bytes: u64,
+}
+
+/// An error unless both are the same.
+pub fn alike<T: PartialEq + std::fmt::Debug>(what: &str, product: T, wanted: T) -> Checked {
+    if product == wanted {
+        return Ok(());
+    }
+    Err(format!(
+        "{what}\n  product:     {product:?}\n  independent: {wanted:?}"
+    ))
+}
+
+/// A case, now and then cut at a random byte.
+fn next_case(rng: &mut Rng) -> Case {
+    let mut case = random_case(rng);
+    if rng.once_in(8) {
+        case.shard.truncate(rng.place(case.shard.len() + 1));
+    }
+    case
+}
+
+fn check(case: &Case, rng: &mut Rng, seen: &mut Seen) -> Checked {
+    let (records, verdict) = read::independent(case);
+    seen.read[verdict.map_or_else(|refusal| refusal.number.into(), |_| 0)] += 1;
+    seen.records += records.len() as u64;
+    seen.bytes += case.shard.len() as u64;
+    read::in_steps(case, rng)?;
+    let offers = read::in_tables(case, rng, &records, verdict)?;
+    #[cfg(feature = "whole")]
+    read::whole(case, rng, &records, verdict)?;
+    let read = write::Read {
+        case,
+        records: &records,
+        offers: &offers,
+        verdict,
+    };
+    write::again(&read, rng, seen)
+}
+
+fn hex(bytes: &[u8]) -> String {
+    bytes.iter().map(|byte| format!("{byte:02x}")).collect()
+}
+
+fn report(seen: &Seen) {
+    println!("{} records in {} bytes", seen.records, seen.bytes);
+    println!("{:>14} {:>9} {:>9}", "", "readers", "writer");
+    for number in 0..=16 {
+        let name = match number {
+            0 => "accepted".to_string(),
+            _ => format!("refused {number}"),
+        };
+        let (read, written) = (seen.read[number], seen.written[number]);
+        println!("{name:>14} {read:>9} {written:>9}");
+    }
+}
+
+fn main() -> ExitCode {
+    let numbers: Vec<u64> = env::args().skip(1).map_while(|n| n.parse().ok()).collect();
+    let &[count, seed] = &numbers[..] else {
+        eprintln!("usage: compare N SEED");
+        return ExitCode::FAILURE;
+    };
+    let mut rng = Rng::new(seed);
+    let mut seen = Seen::default();
+    for number in 0..count {
+        let case = next_case(&mut rng);
+        if let Err(difference) = check(&case, &mut rng, &mut seen) {
+            println!(
+                "input {number} of seed {seed} ({}): {difference}",
+                case.family
+            );
+            println!("  tag:   {}\n  shard: {}", hex(&case.tag), hex(&case.shard));
+            return ExitCode::FAILURE;
+        }
+    }
+    report(&seen);
+    println!("{count} inputs, 0 differences");
+    ExitCode::SUCCESS
+}

@@ -1,0 +1,14 @@
+//! An independent reader of shards and a seeded maker of good and damaged ones.
+//!
+//! Written from the paper `01-scope.md` alone. It shares no code with the
+//! product it checks.
+
+#![forbid(unsafe_code)]
+#![warn(missing_docs)]
+
+pub mod cases;
+pub mod damage;
+pub mod examples;
+pub mod generate;
+pub mod reader;
+pub mod vectors;
