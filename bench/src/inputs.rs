@@ -1,0 +1,113 @@
+//! The shards that are read, made by the proved writer.
+
+use melagbosun::{ChunkIndex, Hash, Offer, Writer};
+
+/// The tag of the shards.
+pub fn tag() -> [u8; 32] {
+    std::array::from_fn(|i| i as u8 + 1)
+}
+
+/// A shard and the offers it was written from.
+pub struct Input {
+    /// What it is.
+    pub name: &'static str,
+    /// The offers, one for each record.
+    pub offers: Vec<Offer>,
+    /// The bytes.
+    pub shard: Vec<u8>,
+    /// How often it is read in one round.
+    pub times: usize,
+}
+
+impl Input {
+    fn new(name: &'static str, offers: Vec<Offer>, times: usize) -> Self {
+        let mut writer = Writer::new(&tag());
+        let mut shard = vec![0; 48 * offers.len()];
+        for (offer, buffer) in offers.iter().zip(shard.chunks_mut(48)) {
+            writer.put(offer, buffer).expect("a good offer");
+        }
+        Input {
+            name,
+            offers,
+            shard,
+            times,
+        }
+    }
+
+    /// The records of all readings of one round.
+    pub fn records(&self) -> usize {
+        self.offers.len() * self.times
+    }
+}
+
+/// Hashes that do not repeat.
+struct Hashes(u64);
+
+impl Iterator for Hashes {
+    type Item = Hash;
+
+    fn next(&mut self) -> Option<Hash> {
+        let mut word = || {
+            self.0 = self.0.wrapping_add(0x9E37_79B9_7F4A_7C15);
+            (self.0 ^ self.0 >> 31).wrapping_mul(0xBF58_476D_1CE4_E5B9)
+        };
+        Some(Hash([word(), word(), word(), word()]))
+    }
+}
+
+/// The 144-byte shard, read many times.
+pub fn empty() -> Input {
+    let offers = vec![
+        Offer::Header { footer_size: 0 },
+        Offer::SectionEnd,
+        Offer::SectionEnd,
+    ];
+    Input::new("empty shard", offers, 50_000)
+}
+
+/// One xorb of 300,000 chunks.
+pub fn chunks() -> Input {
+    const COUNT: u32 = 300_000;
+    const BYTES: u32 = 10_000;
+    let mut hashes = Hashes(1);
+    let head = Offer::XorbHead {
+        hash: hashes.next().unwrap_or_default(),
+        flags: 0,
+        entries: COUNT,
+        bytes: COUNT * BYTES,
+        on_disk: 12_345,
+    };
+    let chunk = |(i, hash): (u32, Hash)| Offer::Chunk {
+        hash,
+        start: i * BYTES,
+        bytes: BYTES,
+    };
+    let mut offers = vec![Offer::Header { footer_size: 0 }, Offer::SectionEnd, head];
+    offers.extend((0..COUNT).zip(hashes).map(chunk));
+    offers.push(Offer::SectionEnd);
+    Input::new("300,000 chunks", offers, 1)
+}
+
+/// 100,000 files of one segment.
+pub fn files() -> Input {
+    const COUNT: u32 = 100_000;
+    let mut hashes = Hashes(2);
+    let mut offers = vec![Offer::Header { footer_size: 0 }];
+    for i in 0..COUNT {
+        let mut hash = || hashes.next().unwrap_or_default();
+        offers.push(Offer::FileHead {
+            hash: hash(),
+            flags: 0,
+            entries: 1,
+        });
+        offers.push(Offer::Segment {
+            hash: hash(),
+            flags: 0,
+            bytes: 65_536,
+            start: ChunkIndex(i),
+            end: ChunkIndex(i + 1),
+        });
+    }
+    offers.extend([Offer::SectionEnd; 2]);
+    Input::new("100,000 files", offers, 1)
+}

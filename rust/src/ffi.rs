@@ -1,0 +1,277 @@
+//! The C boundary of the archive, as `melagbosun.h` declares it, and a safe function over each call.
+#![allow(unsafe_code)]
+
+#[derive(Clone, Copy, Debug)]
+#[repr(C)]
+pub struct Totals {
+    pub files: u64,
+    pub segments: u64,
+    pub xorbs: u64,
+    pub chunks: u64,
+    pub bytes: u64,
+}
+
+#[derive(Clone, Copy, Debug)]
+#[repr(C)]
+pub struct Due {
+    sum: u64,
+    total: u64,
+    code: u32,
+    left: u32,
+}
+
+#[derive(Clone, Copy, Debug)]
+#[repr(C)]
+pub struct Place {
+    at: u64,
+    offset: u64,
+    totals: Totals,
+    due: Due,
+    flags: u32,
+    entries: u32,
+    footer: u32,
+}
+
+#[derive(Clone, Copy, Debug)]
+#[repr(C)]
+pub struct Reader {
+    carry: [u8; 200],
+    tag: [u64; 4],
+    have: u64,
+    place: Place,
+}
+
+#[derive(Clone, Copy, Debug)]
+#[repr(C)]
+pub struct Writer {
+    tag: [u64; 4],
+    place: Place,
+}
+
+#[derive(Clone, Copy, Debug)]
+#[repr(C)]
+pub struct Record {
+    pub hash: [u64; 4],
+    pub at: u64,
+    pub offset: u64,
+    pub kind: u32,
+    pub a: u32,
+    pub b: u32,
+    pub c: u32,
+    pub d: u32,
+}
+
+#[derive(Clone, Copy, Debug)]
+#[repr(C)]
+pub struct Verdict {
+    pub length: u64,
+    pub totals: Totals,
+    pub at: u64,
+    pub number: u32,
+    pub footer: u32,
+}
+
+#[derive(Clone, Copy, Debug)]
+#[repr(C)]
+pub struct Step {
+    pub reader: Reader,
+    pub found: Record,
+    pub taken: u64,
+    pub at: u64,
+    pub said: u32,
+    pub number: u32,
+}
+
+#[derive(Clone, Copy, Debug)]
+#[repr(C)]
+pub struct Read {
+    pub reader: Reader,
+    pub taken: u64,
+    pub count: u64,
+    pub at: u64,
+    pub said: u32,
+    pub number: u32,
+}
+
+#[derive(Clone, Copy, Debug, Default)]
+#[repr(C)]
+pub struct Offer {
+    pub hash: [u64; 4],
+    pub x: u64,
+    pub y: u64,
+    pub kind: u32,
+    pub a: u32,
+    pub b: u32,
+    pub c: u32,
+    pub d: u32,
+}
+
+#[derive(Clone, Copy, Debug)]
+#[repr(C)]
+pub struct Written {
+    pub writer: Writer,
+    pub wrote: u64,
+    pub at: u64,
+    pub number: u32,
+}
+
+/// What a call of the reader says: nothing yet, a record, a refusal. A search: absent, found, refused.
+pub const NOTHING: u32 = 0;
+pub const FOUND: u32 = 1;
+
+/// A row of the table that [`reader_read`] fills: kind, at, offset, the hash, a and b, c and d.
+pub type Row = [u64; 9];
+
+extern "C" {
+    fn mdb_reader_new(tag: *const u8, length: usize) -> Reader;
+    fn mdb_reader_step(state: Reader, piece: *const u8, length: usize) -> Step;
+    fn mdb_reader_read(
+        state: Reader,
+        piece: *const u8,
+        length: usize,
+        table: *mut u64,
+        table_length: usize,
+    ) -> Read;
+    fn mdb_reader_verdict(state: Reader) -> Verdict;
+    fn mdb_writer_new(tag: *const u8, length: usize) -> Writer;
+    fn mdb_writer_put(state: Writer, offer: Offer, buffer: *mut u8, length: usize) -> Written;
+    fn mdb_writer_verdict(state: Writer) -> Verdict;
+}
+
+pub fn reader_new(tag: &[u8]) -> Reader {
+    // SAFETY: the slice outlives the call, which only reads it; the pointer of an empty slice is not null.
+    unsafe { mdb_reader_new(tag.as_ptr(), tag.len()) }
+}
+
+#[inline]
+pub fn reader_step(state: Reader, piece: &[u8]) -> Step {
+    // SAFETY: the slice outlives the call, which only reads it; the pointer of an empty slice is not null. The state goes by
+    // value, and every state gets an answer.
+    unsafe { mdb_reader_step(state, piece.as_ptr(), piece.len()) }
+}
+
+#[inline]
+pub fn reader_read(state: Reader, piece: &[u8], table: &mut [Row]) -> Read {
+    let table = table.as_flattened_mut();
+    // SAFETY: both slices outlive the call, which reads the first and writes numbers within the second; being `&mut`, the
+    // second overlaps nothing. The pointer of an empty slice is not null.
+    unsafe {
+        mdb_reader_read(
+            state,
+            piece.as_ptr(),
+            piece.len(),
+            table.as_mut_ptr(),
+            table.len(),
+        )
+    }
+}
+
+pub fn reader_verdict(state: Reader) -> Verdict {
+    // SAFETY: no memory is lent; the state goes by value, and every state gets an answer.
+    unsafe { mdb_reader_verdict(state) }
+}
+
+pub fn writer_new(tag: &[u8]) -> Writer {
+    // SAFETY: the slice outlives the call, which only reads it; the pointer of an empty slice is not null.
+    unsafe { mdb_writer_new(tag.as_ptr(), tag.len()) }
+}
+
+#[inline]
+pub fn writer_put(state: Writer, offer: Offer, buffer: &mut [u8]) -> Written {
+    // SAFETY: the slice outlives the call, which writes within it and nowhere else; the pointer of an empty slice is not
+    // null. State and offer go by value, and all of them get an answer.
+    unsafe { mdb_writer_put(state, offer, buffer.as_mut_ptr(), buffer.len()) }
+}
+
+pub fn writer_verdict(state: Writer) -> Verdict {
+    // SAFETY: no memory is lent; the state goes by value, and every state gets an answer.
+    unsafe { mdb_writer_verdict(state) }
+}
+
+#[cfg(feature = "whole")]
+pub use whole::*;
+
+#[cfg(feature = "whole")]
+mod whole {
+    use super::Verdict;
+
+    #[derive(Clone, Copy)]
+    #[repr(C)]
+    pub struct Hash {
+        pub hash: [u64; 4],
+    }
+
+    #[derive(Clone, Copy)]
+    #[repr(C)]
+    pub struct FoundChunk {
+        pub at: u64,
+        pub said: u32,
+        pub number: u32,
+        pub block: u32,
+        pub index: u32,
+    }
+
+    #[derive(Clone, Copy)]
+    #[repr(C)]
+    pub struct FoundFile {
+        pub at: u64,
+        pub said: u32,
+        pub number: u32,
+        pub file: u32,
+    }
+
+    extern "C" {
+        fn mdb_judge(tag: *const u8, tag_length: usize, shard: *const u8, length: usize)
+            -> Verdict;
+        fn mdb_find_chunk(
+            tag: *const u8,
+            tag_length: usize,
+            shard: *const u8,
+            length: usize,
+            hash: Hash,
+        ) -> FoundChunk;
+        fn mdb_find_file(
+            tag: *const u8,
+            tag_length: usize,
+            shard: *const u8,
+            length: usize,
+            hash: Hash,
+        ) -> FoundFile;
+    }
+
+    pub fn judge(tag: &[u8], shard: &[u8]) -> Verdict {
+        // SAFETY: both slices outlive the call, which only reads them; the pointer of an empty slice is not null.
+        unsafe { mdb_judge(tag.as_ptr(), tag.len(), shard.as_ptr(), shard.len()) }
+    }
+
+    pub fn find_chunk(tag: &[u8], shard: &[u8], hash: Hash) -> FoundChunk {
+        // SAFETY: both slices outlive the call, which only reads them; the pointer of an empty slice is not null.
+        unsafe { mdb_find_chunk(tag.as_ptr(), tag.len(), shard.as_ptr(), shard.len(), hash) }
+    }
+
+    pub fn find_file(tag: &[u8], shard: &[u8], hash: Hash) -> FoundFile {
+        // SAFETY: both slices outlive the call, which only reads them; the pointer of an empty slice is not null.
+        unsafe { mdb_find_file(tag.as_ptr(), tag.len(), shard.as_ptr(), shard.len(), hash) }
+    }
+
+    const _: () = {
+        assert!(size_of::<Hash>() == 32);
+        assert!(size_of::<FoundChunk>() == 24);
+        assert!(size_of::<FoundFile>() == 24);
+    };
+}
+
+/// The sizes that the C declarations have.
+const _: () = {
+    assert!(size_of::<Totals>() == 40);
+    assert!(size_of::<Due>() == 24);
+    assert!(size_of::<Place>() == 96);
+    assert!(size_of::<Reader>() == 336);
+    assert!(size_of::<Writer>() == 128);
+    assert!(size_of::<Record>() == 72);
+    assert!(size_of::<Verdict>() == 64);
+    assert!(size_of::<Step>() == 432);
+    assert!(size_of::<Read>() == 368);
+    assert!(size_of::<Offer>() == 72);
+    assert!(size_of::<Written>() == 152);
+};

@@ -1,0 +1,55 @@
+//! Shards read and written through a library that is proved to follow its written rules.
+//!
+//! - [`Reader`] reads a shard in pieces, [`Writer`] writes one record by record.
+//! - With the feature `whole`, `judge` answers for a whole shard in a buffer, and `find_chunk` and `find_file` look for a
+//!   hash.
+//!
+//! The proved part is the archive `libhost.a`, for x86-64 only; `rt staticlib host` makes it. This crate adds types around
+//! it and no rules. It allocates nothing.
+//!
+//! ```
+//! use melagbosun::{Reader, Record};
+//!
+//! let tag: Vec<u8> = (1..=32).collect();
+//! let mut shard = tag.clone();
+//! shard.extend(2_u64.to_le_bytes());
+//! shard.extend(0_u64.to_le_bytes());
+//! for _ in 0..2 {
+//!     shard.extend([0xFF; 32]);
+//!     shard.extend([0; 16]);
+//! }
+//!
+//! let mut reader = Reader::new(&tag);
+//! for piece in shard.chunks(7) {
+//!     reader.read(piece, |record| println!("{record:?}"))?;
+//! }
+//! assert_eq!(reader.verdict()?.length, 144);
+//! # Ok::<(), melagbosun::Refusal>(())
+//! ```
+
+#![deny(missing_docs)]
+#![deny(unsafe_code)]
+
+mod error;
+mod ffi;
+#[cfg(feature = "whole")]
+mod find;
+mod reader;
+mod record;
+mod writer;
+
+pub use error::{Refusal, Summary, Totals, Verdict};
+#[cfg(feature = "whole")]
+pub use find::{find_chunk, find_file, judge, FoundChunk, FoundFile};
+pub use reader::{Reader, Said, Step};
+pub use record::{BlockNumber, ChunkIndex, FileNumber, Hash, Position, Record};
+pub use writer::{Offer, Writer};
+
+/// The length that a tag must have.
+pub const TAG_SIZE: usize = 32;
+
+/// The size of every record but the footer.
+pub const ENTRY_SIZE: usize = 48;
+
+/// The size of the footer.
+pub const FOOTER_SIZE: usize = 200;

@@ -1,0 +1,106 @@
+//! Reading in pieces.
+
+use crate::error::{refusal, verdict};
+use crate::{ffi, Record, Refusal, Verdict};
+
+/// A reader of one shard, which comes in pieces of any length.
+#[derive(Clone, Debug)]
+pub struct Reader {
+    state: ffi::Reader,
+}
+
+/// What one call of [`Reader::step`] gives.
+#[derive(Clone, Copy, Debug, PartialEq, Eq)]
+pub struct Step {
+    /// The bytes taken from the start of the piece; offer the rest again.
+    pub taken: usize,
+    /// What the reader says.
+    pub said: Said,
+}
+
+/// What the reader says.
+#[derive(Clone, Copy, Debug, PartialEq, Eq)]
+pub enum Said {
+    /// No record is complete yet.
+    Nothing,
+    /// A record is complete, and good.
+    Record(Record),
+    /// The reader has refused, now or before.
+    Refused(Refusal),
+}
+
+/// One row more than a piece of 4,096 bytes fills, even after a carry of 47: so one call takes the whole piece.
+const ROWS: usize = 87;
+
+/// The rows for a small piece, since a table is cleared for every piece.
+const FEW_ROWS: usize = 8;
+
+impl Reader {
+    /// A fresh reader. With a tag that is not 32 bytes it has refused with 2.
+    pub fn new(tag: &[u8]) -> Self {
+        let state = ffi::reader_new(tag);
+        Reader { state }
+    }
+
+    /// One call: takes the smaller of the piece's length and the bytes missing from the record due, and hands out at most
+    /// one record. After a refusal every call takes nothing and repeats it.
+    #[inline]
+    pub fn step(&mut self, piece: &[u8]) -> Step {
+        let answer = ffi::reader_step(self.state, piece);
+        self.state = answer.reader;
+        Step {
+            taken: answer.taken as usize,
+            said: match answer.said {
+                ffi::NOTHING => Said::Nothing,
+                ffi::FOUND => Said::Record(answer.found.into()),
+                _ => Said::Refused(refusal(answer.number, answer.at)),
+            },
+        }
+    }
+
+    /// Takes a whole piece, and hands each record that it completes to `visit`, in order.
+    ///
+    /// # Errors
+    ///
+    /// The refusal, if the reader refuses this piece or has refused before. The good records before it were handed out.
+    pub fn read(&mut self, piece: &[u8], visit: impl FnMut(Record)) -> Result<(), Refusal> {
+        if piece.len() <= FEW_ROWS * crate::ENTRY_SIZE {
+            self.read_by::<FEW_ROWS>(piece, visit)
+        } else {
+            self.read_by::<ROWS>(piece, visit)
+        }
+    }
+
+    /// Takes a whole piece by way of a table of so many rows.
+    fn read_by<const N: usize>(
+        &mut self,
+        piece: &[u8],
+        mut visit: impl FnMut(Record),
+    ) -> Result<(), Refusal> {
+        let mut table = [[0; 9]; N];
+        let mut left = piece;
+        loop {
+            let answer = ffi::reader_read(self.state, left, &mut table);
+            self.state = answer.reader;
+            left = &left[answer.taken as usize..];
+            for row in &table[..answer.count as usize] {
+                visit(row.into());
+            }
+            match answer.said {
+                ffi::NOTHING => return Ok(()),
+                ffi::FOUND => (),
+                _ => return Err(refusal(answer.number, answer.at)),
+            }
+        }
+    }
+
+    /// The summary after the end, the refusal if there was one, else 1 at the record due, which is only a report: reading
+    /// may go on. Asking changes nothing.
+    ///
+    /// # Errors
+    ///
+    /// As said.
+    pub fn verdict(&self) -> Verdict {
+        verdict(ffi::reader_verdict(self.state))
+    }
+}
