@@ -1,12 +1,13 @@
 -- One call of any reader takes no more than there is, and a refusal hands out nothing and stays, because a call has three cases
 -- (nothing is due, the piece is too short, it completes the record) and the place holds a refusal. Assumes nothing.
-use mathlib.Core.Path.{_≡_, refl, ap, _∙_, subst}
+use mathlib.Core.Path.{_≡_, refl, sym, ap, ap₂, _∙_, subst}
 use mathlib.Core.Bool.{Bool, true, false}
 use mathlib.Core.List.{List}
 use Prim.Native.Nat.{ℕ, zero, suc, _≤_, _<_}
 use native.Mathlib.Omega.{arith}
 use lib.Dec.{eqb, ltb}
 use lib.ListN.{length}
+use lib.Seq.{paste}
 use borrow.Author.Tests.{eq-eqb, ne-eqb, lt-ltb, le-ltb, eqb-true, ltb-true, ltb-false}
 use Rattle.words.specs.Checks.{pick}
 use Rattle.words.specs.declared.Words.{Words}
@@ -46,6 +47,15 @@ module _ (r : Reader) (piece : List ℕ) where
   step-completed k l =
       let z : sizeOf (r .place) ≡ 0 → ⊥ = λ e. omega arith in
       rw (ne-eqb _ _ z, le-ltb _ _ l)
+
+  -- a whole record, by its numbers
+  module _ (k : 0 < sizeOf (r .place)) {w : Words} {number lacks : ℕ} (e : lacks ≡ lacking r) (l : lacks ≤ length piece)
+      (u : w ≡ wordsIn (r .place) (paste (r .carry) (r .have) piece lacks)) (v : number ≡ faultIn (r .tag) (r .place) (paste (r .carry) (r .have) piece lacks)) where
+    pub step-settled : stepOf r piece ≡ settled r w number lacks
+    step-settled =
+        let f = u ∙ ap (λ (n : ℕ). wordsIn (r .place) (paste (r .carry) (r .have) piece n)) e in
+        let g = v ∙ ap (λ (n : ℕ). faultIn (r .tag) (r .place) (paste (r .carry) (r .have) piece n)) e in
+        step-completed k (rw e at l) ∙ ap₂ (λ (x : Words) (n : ℕ). settled r x n (lacking r)) (sym f) (sym g) ∙ ap (settled r w number) (sym e)
 
   -- what holds in each case holds of the call
   by-case : (P : Step → Type 0) → (sizeOf (r .place) ≡ 0 → P (stopped r (length piece))) → (length piece < lacking r → P (kept r piece))

@@ -5,4 +5,6 @@ pub mod Bridge
 pub mod Reached
 pub mod Cut
 pub mod Whole
+pub mod Turns
+pub mod Shown
 pub mod Theorem

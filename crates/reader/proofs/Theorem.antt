@@ -13,6 +13,7 @@ use Rattle.reader.specs.declared.Reader.{Reader}
 use Rattle.reader.proofs.Calls.{no-more, some-more, refuses}
 use Rattle.reader.proofs.Reached.{stands, kept}
 use Rattle.reader.proofs.Cut.{offers-run, cut, whole, any-calls}
+use Rattle.reader.proofs.Shown.{shows, begun-read}
 
 enough : (r : Reader) → Begun r → (piece : List ℕ) → Bytes piece → EnoughClaim r piece
 enough r b piece y n l =
@@ -27,7 +28,7 @@ takes r b piece d l = go (kept r b .fits)
     go (inr z) = absurd (omega (arith, d, z .0))
 
 pub reader : ReaderClaim
-reader = record { cut = cut; whole = whole; calls = any-calls; kept = kept; enough = enough; takes = takes; most = no-more; refused = refuses }
+reader = record { cut = cut; whole = whole; calls = any-calls; kept = kept; enough = enough; takes = takes; most = no-more; refused = refuses; shows = shows; reads = begun-read }
 
 -- ONLY: what is said to be one thing is one thing; so two results of a function that promises `r ≡ X` are equal
 pub only : {A : Type 0} {x y : A} (z : A) → x ≡ z → y ≡ z → x ≡ y

@@ -9,15 +9,13 @@ use lib.ListN.{length, drop, length-drop, drop-of-length-le, getD}
 use lib.Seq.{drop-drop, drop-cons, getD-drop}
 use borrow.Author.Tests.{eq-eqb, ne-eqb, lt-ltb, le-ltb, eqb-true, eqb-false, ltb-true, ltb-false}
 use Rattle.words.specs.Le.{Bytes}
-use Rattle.words.specs.Record.{hashAt, wordsAt, footerAt}
+use Rattle.words.specs.Record.{hashAt}
 use Rattle.words.specs.Checks.{pick}
 use Rattle.words.specs.declared.Words.{Words}
-use Rattle.words.specs.declared.Footer.{Footer}
 use Rattle.words.proofs.Numbers.{take-bytes}
-use Rattle.words.proofs.Parts.{words-there, footer-there}
 use Rattle.cut.specs.Format.{State, at, stopped, Run, settle, run}
 use Rattle.cut.proofs.Runs.{run-nil, run-stopped, run-late, run-short, run-record}
-use Rattle.rules.specs.Rules.{sizeOf, wordsIn, faultIn, faultOf, footerFault, recordOf, nextOf, start}
+use Rattle.rules.specs.Rules.{sizeOf, wordsIn, faultIn, recordOf, nextOf, start}
 use Rattle.rules.specs.Verdicts.{refused, verdictAt}
 use Rattle.rules.specs.declared.Place.{Place}
 use Rattle.rules.specs.declared.Record.{Record}
@@ -40,20 +38,11 @@ module _ (tag s : List ℕ) (p : Place) where
       let z : sizeOf p ≡ 0 → ⊥ = λ e. omega arith in
       rw (ne-eqb _ _ z, lt-ltb _ _ l)
 
-  turn-full : 0 < sizeOf p → sizeOf p ≤ leftAt s p → turnOf tag s p ≡ turnAfter p (faultIn tag p (recordAt s p)) (wordsIn p (recordAt s p))
+  pub turn-full : 0 < sizeOf p → sizeOf p ≤ leftAt s p → turnOf tag s p ≡ turnAfter p (faultIn tag p (recordAt s p)) (wordsIn p (recordAt s p))
   unfolding turnOf
   turn-full k l =
       let z : sizeOf p ≡ 0 → ⊥ = λ e. omega arith in
       rw (ne-eqb _ _ z, le-ltb _ _ l)
-
-  pub turn-row : sizeOf p ≡ 48 → 48 ≤ leftAt s p → turnOf tag s p ≡ turnAfter p (faultOf tag p (wordsAt s (p .at .0))) (wordsAt s (p .at .0))
-  turn-row e l = turn-full (omega arith) (omega arith) ∙ rw (e, words-there 48 s (p .at .0) 0 (p .at .0) (omega arith) (omega arith))
-
-  pub turn-foot : sizeOf p ≡ 200 → 200 ≤ leftAt s p
-      → turnOf tag s p ≡ turnAfter p (footerFault p (footerAt s (p .at .0))) (footerAt s (p .at .0) .words)
-  turn-foot e l =
-      turn-full (omega arith) (omega arith)
-      ∙ rw e (ap (λ (f : Footer). turnAfter p (footerFault p f) (f .words)) (footer-there 200 s (p .at .0) (omega arith)))
 
 -- ## What the turns come to
 

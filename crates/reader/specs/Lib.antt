@@ -1,3 +1,4 @@
 pub mod Stream
 pub mod Whole
+pub mod Rows
 pub mod Readings

@@ -58,11 +58,11 @@ abbrev pub saidAfter : Place → ℕ → Said
 saidAfter p number = pick (eqb number 0) said.Record (said.Refused (refusalAt number p))
 
 -- a whole record, good or faulty: its bytes are taken, and all of the carry is zero after it
+abbrev pub settledBy : List ℕ → Place → Record → Said → ℕ → Step
+settledBy tag p found s taken = record { reader = emptied tag p; answer = record { taken = taken; found = found; said = s } }
+
 abbrev pub settled : Reader → Words → ℕ → ℕ → Step
-settled r w number taken = record {
-  reader = emptied (r .tag) (placeAfter (r .place) number w);
-  answer = record { taken = taken; found = recordAfter (r .place) number w; said = saidAfter (r .place) number };
-}
+settled r w number taken = settledBy (r .tag) (placeAfter (r .place) number w) (recordAfter (r .place) number w) (saidAfter (r .place) number) taken
 
 -- fewer bytes than are missing: all are taken and kept
 abbrev pub kept : Reader → List ℕ → Step

@@ -1,11 +1,12 @@
 // The reader: a shard in pieces, as a state passed and returned, or lent and advanced in place; and the judge of a whole shard in a buffer.
-// What one call of the reader does is said in specs/Stream, and one turn of the judge in specs/Whole.
+// What one call of the reader does is said in specs/Stream, a whole piece in specs/Rows, and one turn of the judge in specs/Whole.
 use rules::Place;
 use rules::Record;
 use rules::Refusal;
 
 mod judging;
 mod lent;
+mod rows;
 mod steps;
 
 pub use judging::judge;
@@ -36,4 +37,12 @@ pub struct Answer {
 pub struct Step {
     pub reader: Reader,
     pub answer: Answer,
+}
+
+// What reading a whole piece gives: the reader, the bytes taken, the rows filled, and what was said last.
+pub struct Read {
+    pub reader: Reader,
+    pub taken: usize,
+    pub count: usize,
+    pub said: Said,
 }

@@ -18,18 +18,21 @@ ghost use lib.ListN.{length};
 ghost use lib.Seq.{paste};
 ghost use Rattle.words.specs.Record.{wordsAt};
 ghost use Rattle.rules.specs.Rules.{sizeOf, wordsIn, faultIn};
-ghost use Rattle.reader.specs.Stream.{startFor, emptied, fresh, silent, placeAfter, recordAfter, saidAfter, settled, kept, stopped, stepOf, verdictOf};
+ghost use Rattle.rules.specs.Verdicts.{refused, refusalAt};
+ghost use Rattle.reader.specs.declared.Said.the-variants as said;
+ghost use Rattle.reader.specs.Stream.{startFor, emptied, fresh, noRecord, silent, placeAfter, recordAfter, saidAfter, settledBy, kept, stopped, stepOf, verdictOf};
 
 // What the bytes of a whole record say: its numbers, and the number of the refusal, 0 if it is good.
-struct Heard {
-    words: Words,
-    number: u32,
+pub struct Heard {
+    pub words: Words,
+    pub number: u32,
 }
 
-struct Sequel {
-    place: Place,
-    found: Record,
-    said: Said,
+// What follows a whole record.
+pub struct Sequel {
+    pub place: Place,
+    pub found: Record,
+    pub said: Said,
 }
 
 const NO_RECORD: Record = Record {
@@ -57,7 +60,7 @@ pub fn start_for(tag: &[u8]) -> Place
     }
 }
 
-// What follows a whole record: it is handed out and reading goes on behind it, or reading has stopped.
+// A good record is handed out, and reading goes on behind it.
 fn after(p: Place, number: u32, w: Words) -> Sequel
     ensures { λ r. ⌜ (r .place ≡ placeAfter p number w) × (r .found ≡ recordAfter p number w) × (r .said ≡ saidAfter p number) ⌝ }
 {
@@ -68,11 +71,18 @@ fn after(p: Place, number: u32, w: Words) -> Sequel
             said: Said::Record,
         }
     } else {
-        Sequel {
-            place: p.refuse(number),
-            found: NO_RECORD,
-            said: Said::Refused(p.refusal(number)),
-        }
+        after_fault(p, number)
+    }
+}
+
+// No record is handed out for a faulty one, and reading has stopped.
+pub fn after_fault(p: Place, number: u32) -> Sequel
+    ensures { λ r. ⌜ (r .place ≡ refused number p) × (r .found ≡ noRecord) × (r .said ≡ said.Refused (refusalAt number p)) ⌝ }
+{
+    Sequel {
+        place: p.refuse(number),
+        found: NO_RECORD,
+        said: Said::Refused(p.refusal(number)),
     }
 }
 
@@ -90,7 +100,7 @@ fn filled(carry: [u8; 200], have: usize, piece: &[u8], n: usize) -> [u8; 200]
     c
 }
 
-fn missing(size: usize, have: usize) -> usize
+pub fn missing(size: usize, have: usize) -> usize
     ensures { λ r. ⌜ r ≡ size - have ⌝ }
 {
     if have < size { size - have } else { 0 }
@@ -121,7 +131,7 @@ impl Reader {
     }
 
     // A reader with nothing in its carry.
-    fn empty(tag: [u64; 4], place: Place) -> Reader
+    pub(crate) fn empty(tag: [u64; 4], place: Place) -> Reader
         ensures { λ r. ⌜ r ≡ emptied tag place ⌝ }
     {
         Reader {
@@ -144,6 +154,8 @@ impl Reader {
     pub fn step(self, piece: &[u8]) -> Step
         ensures { λ r. ⌜ r ≡ stepOf self (now (piece .entry)) ⌝ }
     {
+        let carry = self.carry;
+        let tag = self.tag;
         let place = self.place;
         let due = place.due;
         let size = due.size();
@@ -154,43 +166,15 @@ impl Reader {
         if piece.len() < lacks {
             return self.keep(piece);
         }
-        let heard = self.hear(piece, lacks);
-        self.settle(heard.words, heard.number, lacks)
+        let heard = hear(carry, self.have, tag, place, piece, lacks);
+        self.settle(after(place, heard.number, heard.words), lacks)
     }
 
-    // What the bytes in the carry and the first of the piece say.
-    fn hear(self, piece: &[u8], lacks: usize) -> Heard
-        requires { ⌜ (lacks ≡ sizeOf (self .place) - self .have) × (lacks ≤ length (now piece)) × (0 < sizeOf (self .place)) ⌝ }
-        ensures { λ r. ⌜ (r .words ≡ wordsIn (self .place) (paste (self .carry) (self .have) (now (piece .entry)) lacks)) × (r .number ≡ faultIn (self .tag) (self .place) (paste (self .carry) (self .have) (now (piece .entry)) lacks)) ⌝ }
+    // After a whole record, good or faulty, all of the carry is zero.
+    pub(crate) fn settle(self, sequel: Sequel, taken: usize) -> Step
+        ensures { λ r. ⌜ r ≡ settledBy (self .tag) (sequel .place) (sequel .found) (sequel .said) taken ⌝ }
     {
-        let place = self.place;
         let tag = self.tag;
-        let carry = self.carry;
-        let have = self.have;
-        let due = place.due;
-        if due.size() == Footer::SIZE {
-            let c = filled(carry, have, piece, lacks);
-            let f = Footer::read(&c, 0);
-            let w = f.words;
-            return Heard {
-                words: w,
-                number: place.footer_fault(f),
-            };
-        }
-        let w = words_of(carry, have, piece, lacks);
-        Heard {
-            words: w,
-            number: place.fault(tag, w),
-        }
-    }
-
-    // A whole record, good or faulty: all of the carry is zero after it.
-    fn settle(self, w: Words, number: u32, taken: usize) -> Step
-        ensures { λ r. ⌜ r ≡ settled self w number taken ⌝ }
-    {
-        let place = self.place;
-        let tag = self.tag;
-        let sequel = after(place, number, w);
         let next = sequel.place;
         let found = sequel.found;
         let said = sequel.said;
@@ -205,7 +189,7 @@ impl Reader {
     }
 
     // Fewer bytes than are missing: they are kept.
-    fn keep(self, piece: &[u8]) -> Step
+    pub(crate) fn keep(self, piece: &[u8]) -> Step
         requires { ⌜ length (now piece) < sizeOf (self .place) - self .have ⌝ }
         ensures { λ r. ⌜ r ≡ kept self (now (piece .entry)) ⌝ }
     {
@@ -230,7 +214,7 @@ impl Reader {
     }
 
     // After the end or a refusal: a byte after the end is refused with 14, and a refusal is repeated.
-    fn stop(self, length: usize) -> Step
+    pub(crate) fn stop(self, length: usize) -> Step
         ensures { λ r. ⌜ r ≡ stopped self length ⌝ }
     {
         let place = self.place;
@@ -255,6 +239,35 @@ impl Reader {
                 }
             }
         }
+    }
+}
+
+// What the bytes in the carry and the first of the piece say of the record due.
+pub fn hear(
+    carry: [u8; 200],
+    have: usize,
+    tag: [u64; 4],
+    place: Place,
+    piece: &[u8],
+    lacks: usize,
+) -> Heard
+    requires { ⌜ (lacks ≡ sizeOf place - have) × (lacks ≤ length (now piece)) × (0 < sizeOf place) ⌝ }
+    ensures { λ r. ⌜ (r .words ≡ wordsIn place (paste carry have (now (piece .entry)) lacks)) × (r .number ≡ faultIn tag place (paste carry have (now (piece .entry)) lacks)) ⌝ }
+{
+    let due = place.due;
+    if due.size() == Footer::SIZE {
+        let c = filled(carry, have, piece, lacks);
+        let f = Footer::read(&c, 0);
+        let w = f.words;
+        return Heard {
+            words: w,
+            number: place.footer_fault(f),
+        };
+    }
+    let w = words_of(carry, have, piece, lacks);
+    Heard {
+        words: w,
+        number: place.fault(tag, w),
     }
 }
 

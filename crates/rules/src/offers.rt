@@ -14,7 +14,7 @@ ghost use Rattle.rules.specs.Offers.{kindBy, kindOffered, wordsBy, words
 
 impl Kind {
     // The row of the paper's table.
-    fn row(self) -> u32
+    pub fn row(self) -> u32
         ensures { λ r. ⌜ r ≡ rowOf self ⌝ }
     {
         match self {

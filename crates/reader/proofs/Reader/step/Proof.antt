@@ -1,7 +1,9 @@
 -- `step` meets its contract: what is due and the length of the piece decide, in the order of the definition. Assumes nothing.
 use mathlib.Core.Path.{sym, _∙_}
-use borrow.Author.Tests.{eq-eqb, ne-eqb, lt-ltb, le-ltb}
+use native.Mathlib.Omega.{arith}
+use borrow.Author.Tests.{eq-eqb, ne-eqb, lt-ltb}
 use Rattle.reader.specs.Stream.{stepOf}
+use Rattle.reader.proofs.Calls.{step-settled}
 use borrow.Author.Needs.{needs}
 use Rattle.reader.proofs.Reader.step.Statement.{statement}
 use Rattle.reader.proofs.Reader.step.Tie as tie
@@ -20,14 +22,18 @@ returns-2 c =
     rw (c .keep .ensures, ne-eqb _ _ (λ e. c3 .if1 .left (c4 .size .ensures ∙ e)), lt-ltb _ _ (rw (c2 .missing .ensures, c4 .size .ensures) at (c1 .if2 .taken)))
 
 returns-3 : tie.Need-returns-3
-unfolding stepOf
 returns-3 c =
     let c1 = c .before in
     let c2 = c1 .before in
     let c3 = c2 .before in
     let c4 = c3 .before in
-    let c5 = c4 .before in
-    rw (ne-eqb _ _ (λ e. c4 .if1 .left (c5 .size .ensures ∙ e)), le-ltb _ _ (rw (c3 .missing .ensures, c5 .size .ensures) at (c2 .if2 .left)), c .settle .ensures, c1 .hear .ensures .0, c1 .hear .ensures .1, c3 .missing .ensures, c5 .size .ensures)
+    let c5 = c4 .before .before in
+    let c6 = c5 .before .before .before .before .before in
+    let a = c6 .args in
+    let e = rw (c5 .size .ensures) at (c4 .missing .ensures) in
+    c .settle .ensures
+    ∙ rw (c1 .after .ensures .0, c1 .after .ensures .1, c1 .after .ensures .2)
+    (sym (step-settled (a .self) (a .piece .now) (omega (arith, c5 .size .ensures)) e (c3 .if2 .left) (c2 .hear .ensures .0) (c2 .hear .ensures .1)))
 
 pub step-spec : {M : Type 1} → statement M
 step-spec =
@@ -39,6 +45,7 @@ step-spec =
     (λ c. λ κs. search needs)
     (λ c. λ κs. search needs)
     returns-2
+    (λ c. λ κs. search needs)
     (λ c. λ κs. search needs)
     (λ c. λ κs. search needs)
     returns-3)

@@ -4,8 +4,8 @@ use borrow.Author.Tests.{eq-eqb, ne-eqb}
 use Rattle.rules.specs.Rules.{sizeOf}
 use Rattle.reader.proofs.Sizes.{size-48}
 use borrow.Author.Needs.{needs}
-use Rattle.reader.proofs.Reader.hear.Statement.{statement}
-use Rattle.reader.proofs.Reader.hear.Tie as tie
+use Rattle.reader.proofs.steps.hear.Statement.{statement}
+use Rattle.reader.proofs.steps.hear.Tie as tie
 
 returns : tie.Need-returns
 returns c =
@@ -18,12 +18,16 @@ returns c =
 words-of-requires : tie.Need-words-of-requires
 words-of-requires c κs =
     let c1 = c .before in
-    let c2 = c1 .before .before .before .before .before in
-    let e : sizeOf (c2 .args .self .place) ≡ 48 = size-48 (c2 .args .self .place .due) (c2 .pre .2) (λ e. c .if1 .left (c1 .size .ensures ∙ e)) in
+    let c2 = c1 .before .before in
+    let e : sizeOf (c2 .args .place) ≡ 48 = size-48 (c2 .args .place .due) (c2 .pre .2) (λ e. c .if1 .left (c1 .size .ensures ∙ e)) in
     (rw e at (c2 .pre .0), c2 .pre .1)
 
 returns-2 : tie.Need-returns-2
-returns-2 c = rw (c .fault .ensures, c .before .words-of .ensures, ne-eqb _ _ (λ e. c .before .before .if1 .left (c .before .before .before .size .ensures ∙ e))) (refl, refl)
+returns-2 c =
+    let c1 = c .before in
+    let c2 = c1 .before in
+    let c3 = c2 .before in
+    rw (c .fault .ensures, c1 .words-of .ensures, ne-eqb _ _ (λ e. c2 .if1 .left (c3 .size .ensures ∙ e))) (refl, refl)
 
 pub hear-spec : {M : Type 1} → statement M
 hear-spec =
