@@ -1,4 +1,5 @@
-/* Shards read and written, for C. Link target/staticlib/libhost.a (x86-64), made by `rt staticlib host`.
+/* Shards read and written, for C. `./archive` makes the library, target/staticlib/libmelagbosun.a (x86-64); link it with
+ * `cc program.c -Iinclude -Ltarget/staticlib -lmelagbosun`.
  *
  * No call keeps, allocates or frees anything: a state goes in by value and the next one comes back in the answer. A lent
  * slice is a pointer and a length; an empty one may have any pointer but NULL, and two lent to one call do not overlap.

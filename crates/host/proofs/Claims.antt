@@ -2,7 +2,6 @@
 use Rattle.host.specs.Claims.{BoundaryClaim}
 use Rattle.host.proofs.Boundary.{place-back, reader-back, writer-back, fields-back, kind-known}
 use Rattle.host.proofs.Given.{given}
-use Rattle.host.proofs.Shown.{shows}
 use Rattle.host.proofs.Writes.{writes}
 
 pub boundary : BoundaryClaim
@@ -13,6 +12,5 @@ boundary = record {
   offer = λ o. fields-back (o .hash) (o .fields);
   known = λ o. kind-known (o .hash) (o .fields);
   begun = given;
-  shows = shows;
   writes = writes;
 }

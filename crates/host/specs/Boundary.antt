@@ -18,6 +18,7 @@ use Rattle.rules.specs.declared.Offer.{Offer}
 use Rattle.rules.specs.declared.Fields.{Fields}
 use Rattle.rules.specs.declared.Fields.the-variants as fields
 use Rattle.reader.specs.declared.Reader.{Reader}
+use Rattle.reader.specs.declared.Read.{Read}
 use Rattle.reader.specs.declared.Step.{Step}
 use Rattle.reader.specs.declared.Said.{Said}
 use Rattle.reader.specs.declared.Said.the-variants as said
@@ -30,6 +31,7 @@ use Rattle.host.specs.declared.TotalsState.{TotalsState}
 use Rattle.host.specs.declared.DueState.{DueState}
 use Rattle.host.specs.declared.PlaceState.{PlaceState}
 use Rattle.host.specs.declared.ReaderState.{ReaderState}
+use Rattle.host.specs.declared.ReadState.{ReadState}
 use Rattle.host.specs.declared.WriterState.{WriterState}
 use Rattle.host.specs.declared.RecordState.{RecordState}
 use Rattle.host.specs.declared.VerdictState.{VerdictState}
@@ -190,6 +192,16 @@ stepOut s = record {
   at = refusalIn (s .answer .said) .at .0;
   said = saidOut (s .answer .said);
   number = refusalIn (s .answer .said) .number;
+}
+
+abbrev pub readOut : Read → ReadState
+readOut x = record {
+  reader = readerOut (x .reader);
+  taken = x .taken;
+  count = x .count;
+  at = refusalIn (x .said) .at .0;
+  said = saidOut (x .said);
+  number = refusalIn (x .said) .number;
 }
 
 -- ## Writers

@@ -1,4 +1,3 @@
 pub mod Boundary
-pub mod Tables
 pub mod Claims
 pub mod Founds

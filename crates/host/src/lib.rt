@@ -1,24 +1,11 @@
-// The C boundary: the reader and the writer for a host that links a static library. States and answers cross by value, as
-// structs of numbers. What each number means is said in specs/Boundary, and for C in include/melagbosun.h.
-use reader::Reader;
-use writer::Writer;
-
-mod founds;
+// What crosses to C: states and answers as structs of numbers, and the ways out and in again. The functions that a host calls
+// are in host_read, host_step, host_write and host_whole. What each number means is said in specs/Boundary, and for C in
+// include/melagbosun.h.
+pub mod founds;
 mod places;
-mod readers;
-mod records;
-mod tables;
-mod writers;
-
-ghost use mathlib.Core.Path.{_≡_};
-ghost use lib.ListN.{length};
-ghost use Rattle.layout.specs.Scan.{foundIn};
-ghost use Rattle.reader.specs.Stream as stream;
-ghost use Rattle.writer.specs.Write as write;
-ghost use Rattle.host.specs.Boundary.{readerIn, readerOut, stepOut, verdictOut, writerIn, writerOut, writtenOut, writtenFor, bufferFor};
-ghost use Rattle.finder.specs.Find.{chunkFound, fileFound};
-ghost use Rattle.host.specs.Founds.{chunkOut, fileOut};
-ghost use Rattle.host.specs.Tables.{readFor};
+pub mod readers;
+pub mod records;
+pub mod writers;
 
 // How many there were of each, and the sum of the segments' bytes.
 #[repr(C)]
@@ -158,95 +145,4 @@ pub struct FoundFileState {
     pub said: u32,
     pub number: u32,
     pub file: u32,
-}
-
-// The first chunk with that hash.
-#[no_mangle]
-pub extern "C" fn mdb_find_chunk(tag: &[u8], shard: &[u8], hash: HashState) -> FoundChunkState
-    ensures { λ r. ⌜ r ≡ chunkOut (chunkFound (now (tag .entry)) (now (shard .entry)) (hash .numbers)) ⌝ }
-{
-    let numbers = hash.numbers;
-    founds::chunk_out(finder::find_chunk(tag, shard, numbers))
-}
-
-// The first file with that hash.
-#[no_mangle]
-pub extern "C" fn mdb_find_file(tag: &[u8], shard: &[u8], hash: HashState) -> FoundFileState
-    ensures { λ r. ⌜ r ≡ fileOut (fileFound (now (tag .entry)) (now (shard .entry)) (hash .numbers)) ⌝ }
-{
-    let numbers = hash.numbers;
-    founds::file_out(finder::find_file(tag, shard, numbers))
-}
-
-// The verdict on a whole shard in a lent buffer.
-#[no_mangle]
-pub extern "C" fn mdb_judge(tag: &[u8], shard: &[u8]) -> VerdictState
-    ensures { λ r. ⌜ r ≡ verdictOut (foundIn (now (tag .entry)) (now (shard .entry)) .verdict) ⌝ }
-{
-    records::verdict_out(reader::judge(tag, shard))
-}
-
-// A fresh reader.
-#[no_mangle]
-pub extern "C" fn mdb_reader_new(tag: &[u8]) -> ReaderState
-    ensures { λ r. ⌜ r ≡ readerOut (stream.fresh (now (tag .entry))) ⌝ }
-{
-    readers::reader_out(Reader::new(tag))
-}
-
-// One call of the reader.
-#[no_mangle]
-pub extern "C" fn mdb_reader_step(state: ReaderState, piece: &[u8]) -> StepState
-    ensures { λ r. ⌜ r ≡ stepOut (stream.stepOf (readerIn state) (now (piece .entry))) ⌝ }
-{
-    let reader = readers::reader_in(state);
-    readers::step_out(reader.step(piece))
-}
-
-// A whole piece: calls of the reader until it is used up or refused or the table is full. Each record found fills a row of nine numbers.
-#[no_mangle]
-pub extern "C" fn mdb_reader_read(state: ReaderState, piece: &[u8], table: &mut [u64]) -> ReadState
-    ensures { λ r. ⌜ (r ≡ readFor (readerIn state) (now (piece .entry)) (now (table .entry)) .answer) × (now (table .exit) ≡ readFor (readerIn state) (now (piece .entry)) (now (table .entry)) .table) ⌝ }
-{
-    let reader = readers::reader_in(state);
-    tables::read_rows(reader, piece, table)
-}
-
-// The reader's verdict so far.
-#[no_mangle]
-pub extern "C" fn mdb_reader_verdict(state: ReaderState) -> VerdictState
-    ensures { λ r. ⌜ r ≡ verdictOut (stream.verdictOf (readerIn state)) ⌝ }
-{
-    let reader = readers::reader_in(state);
-    records::verdict_out(reader.verdict())
-}
-
-// A fresh writer.
-#[no_mangle]
-pub extern "C" fn mdb_writer_new(tag: &[u8]) -> WriterState
-    ensures { λ r. ⌜ r ≡ writerOut (write.fresh (now (tag .entry))) ⌝ }
-{
-    writers::writer_out(Writer::new(tag))
-}
-
-// One record into the buffer, at its start.
-#[no_mangle]
-pub extern "C" fn mdb_writer_put(
-    state: WriterState,
-    offer: OfferState,
-    buf: &mut [u8],
-) -> WrittenState
-    ensures { λ r. ⌜ (r ≡ writtenOut (writtenFor (writerIn state) offer (length (now (buf .entry))))) × (now (buf .exit) ≡ bufferFor (writerIn state) offer (now (buf .entry))) ⌝ }
-{
-    let writer = writers::writer_in(state);
-    writers::written_out(writers::put_for(writer, offer, buf))
-}
-
-// The writer's verdict so far.
-#[no_mangle]
-pub extern "C" fn mdb_writer_verdict(state: WriterState) -> VerdictState
-    ensures { λ r. ⌜ r ≡ verdictOut (write.verdictOf (writerIn state)) ⌝ }
-{
-    let writer = writers::writer_in(state);
-    records::verdict_out(writer.verdict())
 }

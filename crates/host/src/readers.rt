@@ -1,16 +1,18 @@
 // Readers and what their calls give, as numbers and back.
+use crate::ReadState;
 use crate::ReaderState;
 use crate::StepState;
 use crate::places::place_in;
 use crate::places::place_out;
 use crate::records::record_out;
+use reader::Read;
 use reader::Reader;
 use reader::Said;
 use reader::Step;
 use rules::Position;
 use rules::Refusal;
 ghost use mathlib.Core.Path.{_≡_};
-ghost use Rattle.host.specs.Boundary.{saidOut, refusalIn, readerIn, readerOut, stepOut};
+ghost use Rattle.host.specs.Boundary.{saidOut, refusalIn, readerIn, readerOut, stepOut, readOut};
 
 pub fn reader_in(s: ReaderState) -> Reader
     ensures { λ r. ⌜ r ≡ readerIn s ⌝ }
@@ -40,7 +42,7 @@ pub fn reader_out(r: Reader) -> ReaderState
     }
 }
 
-pub fn said_code(s: Said) -> u32
+fn said_code(s: Said) -> u32
     ensures { λ r. ⌜ r ≡ saidOut s ⌝ }
 {
     match s {
@@ -50,7 +52,7 @@ pub fn said_code(s: Said) -> u32
     }
 }
 
-pub fn refusal_in(s: Said) -> Refusal
+fn refusal_in(s: Said) -> Refusal
     ensures { λ r. ⌜ r ≡ refusalIn s ⌝ }
 {
     match s {
@@ -79,6 +81,23 @@ pub fn step_out(s: Step) -> StepState
         reader: reader_out(reader),
         found: record_out(found),
         taken: answer.taken as u64,
+        at: at.0,
+        said: said_code(said),
+        number: refusal.number,
+    }
+}
+
+pub fn read_out(x: Read) -> ReadState
+    ensures { λ r. ⌜ r ≡ readOut x ⌝ }
+{
+    let reader = x.reader;
+    let said = x.said;
+    let refusal = refusal_in(said);
+    let at = refusal.at;
+    ReadState {
+        reader: reader_out(reader),
+        taken: x.taken as u64,
+        count: x.count as u64,
         at: at.0,
         said: said_code(said),
         number: refusal.number,

@@ -5,30 +5,11 @@ use crate::VerdictState;
 use crate::places::mark_of;
 use crate::places::totals_out;
 use rules::Fields;
-use rules::Kind;
 use rules::Offer;
 use rules::Record;
 use rules::Verdict;
 ghost use mathlib.Core.Path.{_≡_};
-ghost use Rattle.rules.specs.Offers.{rowOf};
 ghost use Rattle.host.specs.Boundary.{recordOut, fieldsIn, offerIn, verdictOut};
-
-// The row of the paper's table.
-pub fn row(k: Kind) -> u32
-    ensures { λ r. ⌜ r ≡ rowOf k ⌝ }
-{
-    match k {
-        Kind::Header => 0,
-        Kind::FileHead => 1,
-        Kind::Segment => 2,
-        Kind::Verification => 3,
-        Kind::Metadata => 4,
-        Kind::XorbHead => 5,
-        Kind::Chunk => 6,
-        Kind::Bookend => 7,
-        Kind::Footer => 8,
-    }
-}
 
 pub fn record_out(r: Record) -> RecordState
     ensures { λ s. ⌜ s ≡ recordOut r ⌝ }
@@ -42,7 +23,7 @@ pub fn record_out(r: Record) -> RecordState
         hash: hash,
         at: at.0,
         offset: offset.0,
-        kind: row(kind),
+        kind: kind.row(),
         a: w.a,
         b: w.b,
         c: w.c,

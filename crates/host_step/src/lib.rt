@@ -1,0 +1,16 @@
+// For a host that reads a shard record by record: one call of the reader.
+use host::ReaderState;
+use host::StepState;
+use host::readers;
+ghost use mathlib.Core.Path.{_≡_};
+ghost use Rattle.reader.specs.Stream as stream;
+ghost use Rattle.host.specs.Boundary.{readerIn, stepOut};
+
+// One call of the reader.
+#[no_mangle]
+pub extern "C" fn mdb_reader_step(state: ReaderState, piece: &[u8]) -> StepState
+    ensures { λ r. ⌜ r ≡ stepOut (stream.stepOf (readerIn state) (now (piece .entry))) ⌝ }
+{
+    let reader = readers::reader_in(state);
+    readers::step_out(reader.step(piece))
+}

@@ -1,0 +1,38 @@
+// For a host that has a whole shard in a buffer: judging it, and finding a chunk or a file in it.
+use host::FoundChunkState;
+use host::FoundFileState;
+use host::HashState;
+use host::VerdictState;
+use host::founds;
+use host::records;
+ghost use mathlib.Core.Path.{_≡_};
+ghost use Rattle.layout.specs.Scan.{foundIn};
+ghost use Rattle.finder.specs.Find.{chunkFound, fileFound};
+ghost use Rattle.host.specs.Boundary.{verdictOut};
+ghost use Rattle.host.specs.Founds.{chunkOut, fileOut};
+
+// The verdict on a whole shard in a lent buffer.
+#[no_mangle]
+pub extern "C" fn mdb_judge(tag: &[u8], shard: &[u8]) -> VerdictState
+    ensures { λ r. ⌜ r ≡ verdictOut (foundIn (now (tag .entry)) (now (shard .entry)) .verdict) ⌝ }
+{
+    records::verdict_out(reader::judge(tag, shard))
+}
+
+// The first chunk with that hash.
+#[no_mangle]
+pub extern "C" fn mdb_find_chunk(tag: &[u8], shard: &[u8], hash: HashState) -> FoundChunkState
+    ensures { λ r. ⌜ r ≡ chunkOut (chunkFound (now (tag .entry)) (now (shard .entry)) (hash .numbers)) ⌝ }
+{
+    let numbers = hash.numbers;
+    founds::chunk_out(finder::find_chunk(tag, shard, numbers))
+}
+
+// The first file with that hash.
+#[no_mangle]
+pub extern "C" fn mdb_find_file(tag: &[u8], shard: &[u8], hash: HashState) -> FoundFileState
+    ensures { λ r. ⌜ r ≡ fileOut (fileFound (now (tag .entry)) (now (shard .entry)) (hash .numbers)) ⌝ }
+{
+    let numbers = hash.numbers;
+    founds::file_out(finder::find_file(tag, shard, numbers))
+}
