@@ -346,6 +346,16 @@ pub fn random_case(rng: &mut Rng) -> Case {
     }
 }
 
+/// Any of the above, now and then cut at a random byte.
+pub fn random_cut_case(rng: &mut Rng) -> Case {
+    let mut case = random_case(rng);
+    if rng.once_in(8) {
+        case.shard.truncate(rng.place(case.shard.len() + 1));
+        case.expected = None;
+    }
+    case
+}
+
 fn random_fault(rng: &mut Rng, kind: Kind) -> Case {
     let number = rng.pick(faults(kind));
     faulty(rng, kind, &[number])

@@ -6,6 +6,7 @@
 #![forbid(unsafe_code)]
 #![warn(missing_docs)]
 
+pub mod casebook;
 pub mod cases;
 pub mod damage;
 pub mod examples;

@@ -1,5 +1,9 @@
 //! The form of the two vector files: cases in, one line each out.
 
+use std::collections::BTreeMap;
+use std::path::Path;
+use std::{fs, io};
+
 use crate::reader::Verdict;
 
 /// One case of the input file: T, the tag, N little-endian, the shard.
@@ -35,5 +39,28 @@ pub fn line(verdict: &Verdict) -> String {
             if sum.footer { "yes" } else { "no" }
         ),
         Err(refusal) => format!("refused {} at {}", refusal.number, refusal.position.0),
+    }
+}
+
+/// Writes `stdin` and `stdout` into a folder.
+pub fn write(folder: &Path, input: &[u8], output: &str) -> io::Result<()> {
+    fs::create_dir_all(folder)?;
+    fs::write(folder.join("stdin"), input)?;
+    fs::write(folder.join("stdout"), output)
+}
+
+/// Says how many cases there are and how often each number was seen.
+pub fn report(bytes: usize, verdicts: &[Verdict]) {
+    let mut counts = BTreeMap::new();
+    for verdict in verdicts {
+        let number = verdict.err().map_or(0, |refusal| refusal.number);
+        *counts.entry(number).or_insert(0_u32) += 1;
+    }
+    eprintln!("cases {}, input {bytes} bytes", verdicts.len());
+    for (number, count) in counts {
+        match number {
+            0 => eprintln!("accepted: {count}"),
+            _ => eprintln!("refused {number}: {count}"),
+        }
     }
 }

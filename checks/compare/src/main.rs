@@ -47,7 +47,6 @@ fn check(case: &Case, rng: &mut Rng, seen: &mut Seen) -> Checked {
     seen.bytes += case.shard.len() as u64;
     read::in_steps(case, rng)?;
     let offers = read::in_tables(case, rng, &records, verdict)?;
-    #[cfg(feature = "whole")]
     read::whole(case, rng, &records, verdict)?;
     let read = write::Read {
         case,

@@ -81,7 +81,6 @@ pub fn in_tables(
 }
 
 /// Judging and finding in the whole shard: a hash that is there, and one that may not be.
-#[cfg(feature = "whole")]
 pub fn whole(case: &Case, rng: &mut Rng, records: &[Record], verdict: Verdict) -> Checked {
     let (tag, shard) = (&case.tag[..], &case.shard[..]);
     alike(
@@ -110,7 +109,6 @@ pub fn whole(case: &Case, rng: &mut Rng, records: &[Record], verdict: Verdict) -
 }
 
 /// The hash of a file head or a chunk.
-#[cfg(feature = "whole")]
 fn hash_of(record: &Record) -> Option<own::Hash> {
     match record.fields {
         own::Fields::FileHead { hash, .. } | own::Fields::Chunk { hash, .. } => Some(hash),

@@ -132,7 +132,6 @@ pub fn fed(from: product::Step) -> own::Fed {
     }
 }
 
-#[cfg(feature = "whole")]
 pub fn chunk(from: product::FoundChunk) -> own::ChunkFound {
     own::ChunkFound {
         block: from.block.0.into(),
@@ -141,7 +140,6 @@ pub fn chunk(from: product::FoundChunk) -> own::ChunkFound {
     }
 }
 
-#[cfg(feature = "whole")]
 pub fn file(from: product::FoundFile) -> own::FileFound {
     own::FileFound {
         number: own::FileNumber(from.file.0.into()),

@@ -2,14 +2,13 @@
 //!
 //! A second argument, a number, is another seed.
 
-use std::collections::BTreeMap;
 use std::path::Path;
 use std::process::ExitCode;
-use std::{env, fs, io};
+use std::{env, io};
 
 use checks::cases::{catalogue, Case, SEED};
 use checks::reader::{judge, Verdict};
-use checks::vectors::{encode, line};
+use checks::vectors::{self, encode, line};
 
 fn main() -> ExitCode {
     let mut args = env::args().skip(1);
@@ -38,10 +37,8 @@ fn write(folder: &Path, cases: &[Case]) -> io::Result<()> {
         .flat_map(|case| encode(&case.tag, &case.shard))
         .collect();
     let output: String = verdicts.iter().map(|one| line(one) + "\n").collect();
-    fs::create_dir_all(folder)?;
-    fs::write(folder.join("stdin"), &input)?;
-    fs::write(folder.join("stdout"), &output)?;
-    report(cases.len(), input.len(), &verdicts);
+    vectors::write(folder, &input, &output)?;
+    vectors::report(input.len(), &verdicts);
     Ok(())
 }
 
@@ -52,19 +49,4 @@ fn verdict(case: &Case) -> Verdict {
         assert_eq!(verdict, expected, "{}", case.family);
     }
     verdict
-}
-
-fn report(cases: usize, bytes: usize, verdicts: &[Verdict]) {
-    let mut counts = BTreeMap::new();
-    for verdict in verdicts {
-        let number = verdict.err().map_or(0, |refusal| refusal.number);
-        *counts.entry(number).or_insert(0_u32) += 1;
-    }
-    eprintln!("cases {cases}, input {bytes} bytes");
-    for (number, count) in counts {
-        match number {
-            0 => eprintln!("accepted: {count}"),
-            _ => eprintln!("refused {number}: {count}"),
-        }
-    }
 }

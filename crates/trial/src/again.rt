@@ -4,14 +4,16 @@ use reader::Reader;
 use reader::Said;
 use rules::Record;
 use rules::Verdict;
+use std::num::wrapping_add_u64;
 use writer::Answer;
 use writer::Writer;
 
-// A reader and the writer behind it; `same` while what is written is what was read.
+// A reader and the writer behind it; `same` while what is written is what was read, which is so for the first `length` bytes.
 pub struct Copying {
     pub reader: Reader,
     pub writer: Writer,
     pub same: bool,
+    pub length: u64,
 }
 
 struct Copied {
@@ -19,15 +21,22 @@ struct Copied {
     taken: usize,
 }
 
-// Whether both begin with the same n bytes.
-fn same_start(a: &[u8], b: &[u8], n: usize) -> bool {
-    if a.len() < n {
-        return false;
+// How many bytes at the start of both are the same, at most n.
+fn same_start(a: &[u8], b: &[u8], n: usize) -> usize {
+    let mut i = 0;
+    while i < n {
+        if a.len() <= i {
+            return i;
+        }
+        if b.len() <= i {
+            return i;
+        }
+        if a[i] != b[i] {
+            return i;
+        }
+        i += 1;
     }
-    if b.len() < n {
-        return false;
-    }
-    check::same(&a[0..n], &b[0..n])
+    i
 }
 
 impl Copying {
@@ -36,34 +45,47 @@ impl Copying {
             reader: Reader::new(tag),
             writer: Writer::new(tag),
             same: true,
+            length: 0,
         }
     }
 
-    // A record that was found in bytes is written and compared with them.
-    fn written(self, reader: Reader, found: Record, bytes: &[u8]) -> Copying {
+    // A record that was found in the first so many of some bytes is written and compared with them.
+    fn written(self, reader: Reader, found: Record, bytes: &[u8], taken: usize) -> Copying {
         let mut buf = [0u8; 200];
         let writer = self.writer;
         let put = writer.put(found.offer(), &mut buf);
         let next = put.writer;
         let answer = put.answer;
-        let same = match answer {
-            Answer::Wrote(n) => same_start(&buf, bytes, n),
-            Answer::Refused(_) => false,
+        let size = match answer {
+            Answer::Wrote(n) => n,
+            Answer::Refused(_) => 0,
         };
+        let alike = same_start(&buf, bytes, size);
         Copying {
             reader: reader,
             writer: next,
-            same: self.same & same,
+            same: self.same & (size == taken) & (alike == taken),
+            length: self.with(alike),
+        }
+    }
+
+    // The length with so many bytes more, if none differed before them.
+    fn with(self, more: usize) -> u64 {
+        if self.same {
+            wrapping_add_u64(self.length, more as u64)
+        } else {
+            self.length
         }
     }
 
     // Nothing to write: bytes that are no whole record, or refused.
-    fn differing(self, reader: Reader) -> Copying {
+    fn unwritten(self, reader: Reader) -> Copying {
         let writer = self.writer;
         Copying {
             reader: reader,
             writer: writer,
-            same: false,
+            same: self.same,
+            length: self.length,
         }
     }
 
@@ -76,9 +98,9 @@ impl Copying {
         let said = answer.said;
         let found = answer.found;
         let copying = match said {
-            Said::Record => self.written(next, found, bytes),
-            Said::Nothing => self.differing(next),
-            Said::Refused(_) => self.differing(next),
+            Said::Record => self.written(next, found, bytes, answer.taken),
+            Said::Nothing => self.unwritten(next),
+            Said::Refused(_) => self.unwritten(next),
         };
         Copied {
             copying: copying,
@@ -86,7 +108,7 @@ impl Copying {
         }
     }
 
-    // All records in some bytes, which begin and end where records do.
+    // All records in some bytes, which begin where a record does.
     pub fn copied(self, bytes: &[u8]) -> Copying {
         let mut copying = self;
         let mut at = 0;

@@ -1,3 +1,6 @@
-// What the programs that try shards share: a shard read in pieces, verdicts compared, and a shard written again from what the reader hands out.
+// What the programs that try shards share: cases on standard input, a shard read in pieces, verdicts compared and told, and a shard written
+// again from what the reader hands out.
 pub mod again;
+pub mod cases;
 pub mod pieces;
+pub mod told;

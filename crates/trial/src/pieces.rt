@@ -8,7 +8,7 @@ use shardline::feed::fed;
 ghost use Prim.Native.Nat.{_≤_, _<_};
 
 // Where a piece ends that starts at a position and has so many bytes, at least one.
-fn end_of(at: usize, size: usize, length: usize) -> usize
+pub fn end_of(at: usize, size: usize, length: usize) -> usize
     requires { ⌜ at < length ⌝ }
     ensures { λ r. ⌜ (at < r) × (r ≤ length) ⌝ }
 {

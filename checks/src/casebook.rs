@@ -1,0 +1,185 @@
+//! The form of the two files of a casebook: cases with the lengths of their
+//! pieces in, all that is made of each out.
+
+use crate::cases::{random_cut_case, Case};
+use crate::generate::Rng;
+use crate::reader::{
+    find_chunk, find_file, hash_at, judge, Answer, Fields, Hash, Kind, Reader, Record, Refusal,
+    Verdict, ALL_ONES,
+};
+use crate::vectors::{encode, line};
+
+/// The cases of the stored files.
+pub const CASES: u64 = 40;
+
+/// Their seed, which brings every number of a reader.
+pub const SEED: u64 = 2_767;
+
+/// A case, and the lengths of the pieces that it is read in.
+#[derive(Clone, Debug)]
+pub struct Entry {
+    /// The case.
+    pub case: Case,
+    /// The lengths, used over and over; none is one piece. A 0 is an empty
+    /// piece and then one of a byte.
+    pub pieces: Vec<u8>,
+}
+
+impl Entry {
+    /// The entry of this number in the casebook of this seed.
+    pub fn random(seed: u64, number: u64) -> Self {
+        let own = number.wrapping_mul(0xD134_2543_DE82_EF95);
+        let rng = &mut Rng::new(seed.wrapping_add(own));
+        let case = random_cut_case(rng);
+        let longest = rng.pick(&[1, 10, 60, 255]);
+        let count = rng.pick(&[0, 1, 2, 7]);
+        let pieces = (0..count).map(|_| rng.below(longest + 1) as u8).collect();
+        Entry { case, pieces }
+    }
+
+    /// Its bytes in the input file: the case, K and K lengths.
+    pub fn encode(&self) -> Vec<u8> {
+        let mut bytes = encode(&self.case.tag, &self.case.shard);
+        bytes.push(self.pieces.len() as u8);
+        bytes.extend(&self.pieces);
+        bytes
+    }
+
+    /// Its lines in the output file, and the verdict.
+    pub fn lines(&self) -> (String, Verdict) {
+        let (tag, shard) = (&self.case.tag[..], &self.case.shard[..]);
+        let (records, verdict) = self.read();
+        let mut lines: Vec<String> = records.iter().map(record_line).collect();
+        lines.push(line(&verdict));
+        lines.push("whole ".to_string() + &line(&judge(tag, shard)));
+        lines.push(chunk_line(tag, shard, last_hash(&records, Kind::Chunk)));
+        lines.push(file_line(tag, shard, last_hash(&records, Kind::FileHead)));
+        lines.push(written_line(tag, shard, &records));
+        (lines.join("\n") + "\n", verdict)
+    }
+
+    /// The records and the verdict of a reader on these pieces.
+    fn read(&self) -> (Vec<Record>, Verdict) {
+        let mut reader = Reader::new(&self.case.tag);
+        let mut records = Vec::new();
+        let mut left = &self.case.shard[..];
+        let mut sizes = self.pieces.iter().cycle();
+        while !left.is_empty() {
+            let size = sizes.next().map_or(left.len(), |&size| size.into());
+            if size == 0 {
+                offer(&mut reader, &[], &mut records);
+            }
+            let (piece, rest) = left.split_at(size.max(1).min(left.len()));
+            offer(&mut reader, piece, &mut records);
+            left = rest;
+        }
+        (records, reader.verdict())
+    }
+}
+
+/// Offers a piece until it is used up or refused.
+fn offer(reader: &mut Reader, mut piece: &[u8], records: &mut Vec<Record>) {
+    loop {
+        let fed = reader.feed(piece);
+        if let Answer::Record(record) = fed.answer {
+            records.push(record);
+        }
+        piece = &piece[fed.taken..];
+        if fed.taken == 0 || piece.is_empty() {
+            return;
+        }
+    }
+}
+
+/// Kind, position, xorb offset (of a footer, else 0), hash and four numbers.
+fn record_line(record: &Record) -> String {
+    let ([p, q, r, s], [a, b, c, d]) = numbers(&record.fields);
+    let (kind, position) = (record.kind as u8, record.position.0);
+    let offset = match record.fields {
+        Fields::Footer { xorb_offset, .. } => xorb_offset.0,
+        _ => 0,
+    };
+    format!("{kind} {position} {offset} {p} {q} {r} {s} {a} {b} {c} {d}")
+}
+
+/// The hash, and four numbers of 32 bits: those behind it in the record.
+fn numbers(fields: &Fields) -> (Hash, [u32; 4]) {
+    match *fields {
+        Fields::Header {
+            tag,
+            version,
+            footer_size,
+        } => (hash_at(&tag, 0), halves(version, footer_size)),
+        Fields::FileHead {
+            hash,
+            flags,
+            entries,
+        } => (hash, [flags, entries, 0, 0]),
+        Fields::Segment {
+            hash,
+            bytes,
+            start,
+            end,
+        } => (hash, [0, bytes, start.0 as u32, end.0 as u32]),
+        Fields::Verification { hash } | Fields::Metadata { hash } => (hash, [0; 4]),
+        Fields::XorbHead {
+            hash,
+            entries,
+            bytes,
+            on_disk,
+        } => (hash, [0, entries, bytes, on_disk]),
+        Fields::Chunk { hash, start, bytes } => (hash, [start, bytes, 0, 0]),
+        Fields::Bookend => (ALL_ONES, [0; 4]),
+        Fields::Footer {
+            key,
+            created,
+            expiry,
+            ..
+        } => (key, halves(created, expiry)),
+    }
+}
+
+/// Two numbers of 64 bits as four of 32, the lower half first.
+fn halves(first: u64, second: u64) -> [u32; 4] {
+    [first, first >> 32, second, second >> 32].map(|number| number as u32)
+}
+
+/// The hash of the last record of this kind, or zeros.
+fn last_hash(records: &[Record], kind: Kind) -> Hash {
+    let last = records.iter().rfind(|record| record.kind == kind);
+    last.map_or([0; 4], |record| numbers(&record.fields).0)
+}
+
+fn chunk_line(tag: &[u8], shard: &[u8], hash: Hash) -> String {
+    found_line("chunk", find_chunk(tag, shard, hash), |found| {
+        let (block, index) = (found.block, found.index.0);
+        format!("in {block} index {index} at {}", found.position.0)
+    })
+}
+
+fn file_line(tag: &[u8], shard: &[u8], hash: Hash) -> String {
+    found_line("file", find_file(tag, shard, hash), |found| {
+        format!("{} at {}", found.number.0, found.position.0)
+    })
+}
+
+fn found_line<T>(
+    name: &str,
+    found: Result<Option<T>, Refusal>,
+    said: impl Fn(T) -> String,
+) -> String {
+    let said = match found {
+        Ok(Some(found)) => said(found),
+        Ok(None) => "absent".to_string(),
+        Err(refusal) => line(&Err(refusal)),
+    };
+    format!("{name} {said}")
+}
+
+/// The good records written again are the bytes they were read from, and the
+/// writer's verdict is a reader's on just those.
+fn written_line(tag: &[u8], shard: &[u8], records: &[Record]) -> String {
+    let length: usize = records.iter().map(|record| record.kind.size()).sum();
+    let verdict = line(&judge(tag, &shard[..length]));
+    format!("written {length} bytes, the same, {verdict}")
+}

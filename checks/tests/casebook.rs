@@ -1,0 +1,42 @@
+//! The stored casebook: every number is in it, and it is what is written now.
+
+use checks::casebook::{Entry, CASES, SEED};
+use std::fs;
+use std::path::Path;
+
+fn stored() -> (Vec<u8>, String) {
+    let folder = Path::new(env!("CARGO_MANIFEST_DIR")).join("../crates/casebook");
+    let input = fs::read(folder.join("stdin")).expect("the file stdin");
+    let output = fs::read_to_string(folder.join("stdout")).expect("the file stdout");
+    (input, output)
+}
+
+#[test]
+fn stored_files_are_current() {
+    let entries: Vec<Entry> = (0..CASES).map(|case| Entry::random(SEED, case)).collect();
+    let input: Vec<u8> = entries.iter().flat_map(Entry::encode).collect();
+    let output: String = entries.iter().map(|entry| entry.lines().0).collect();
+    assert_eq!(stored(), (input, output));
+}
+
+#[test]
+fn every_number_is_seen() {
+    let verdicts = (0..CASES).map(|case| Entry::random(SEED, case).lines().1);
+    let mut seen: Vec<u8> = verdicts
+        .map(|verdict| verdict.err().map_or(0, |refusal| refusal.number))
+        .collect();
+    seen.sort_unstable();
+    seen.dedup();
+    assert_eq!(seen, (0..=14).collect::<Vec<u8>>());
+}
+
+/// However a case is cut, its lines are the same.
+#[test]
+fn pieces_change_no_line() {
+    for number in 0..300 {
+        let mut entry = Entry::random(5, number);
+        let lines = entry.lines();
+        entry.pieces.clear();
+        assert_eq!(entry.lines(), lines);
+    }
+}
