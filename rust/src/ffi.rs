@@ -1,6 +1,9 @@
 //! The C boundary of the archive, as `melagbosun.h` declares it, and a safe function over each call.
 #![allow(unsafe_code)]
 
+use std::mem::MaybeUninit;
+use std::ptr;
+
 #[derive(Clone, Copy, Debug)]
 #[repr(C)]
 pub struct Totals {
@@ -115,6 +118,31 @@ pub struct Written {
     pub number: u32,
 }
 
+#[derive(Clone, Copy, Debug)]
+#[repr(C)]
+pub struct Hash {
+    pub hash: [u64; 4],
+}
+
+#[derive(Clone, Copy, Debug)]
+#[repr(C)]
+pub struct FoundChunk {
+    pub at: u64,
+    pub said: u32,
+    pub number: u32,
+    pub block: u32,
+    pub index: u32,
+}
+
+#[derive(Clone, Copy, Debug)]
+#[repr(C)]
+pub struct FoundFile {
+    pub at: u64,
+    pub said: u32,
+    pub number: u32,
+    pub file: u32,
+}
+
 /// What a call of the reader says: nothing yet, a record, a refusal. A search: absent, found, refused.
 pub const NOTHING: u32 = 0;
 pub const FOUND: u32 = 1;
@@ -136,6 +164,21 @@ extern "C" {
     fn mdb_writer_new(tag: *const u8, length: usize) -> Writer;
     fn mdb_writer_put(state: Writer, offer: Offer, buffer: *mut u8, length: usize) -> Written;
     fn mdb_writer_verdict(state: Writer) -> Verdict;
+    fn mdb_judge(tag: *const u8, tag_length: usize, shard: *const u8, length: usize) -> Verdict;
+    fn mdb_find_chunk(
+        tag: *const u8,
+        tag_length: usize,
+        shard: *const u8,
+        length: usize,
+        hash: Hash,
+    ) -> FoundChunk;
+    fn mdb_find_file(
+        tag: *const u8,
+        tag_length: usize,
+        shard: *const u8,
+        length: usize,
+        hash: Hash,
+    ) -> FoundFile;
 }
 
 pub fn reader_new(tag: &[u8]) -> Reader {
@@ -151,19 +194,30 @@ pub fn reader_step(state: Reader, piece: &[u8]) -> Step {
 }
 
 #[inline]
-pub fn reader_read(state: Reader, piece: &[u8], table: &mut [Row]) -> Read {
-    let table = table.as_flattened_mut();
-    // SAFETY: both slices outlive the call, which reads the first and writes numbers within the second; being `&mut`, the
-    // second overlaps nothing. The pointer of an empty slice is not null.
-    unsafe {
+pub fn reader_read<'a>(
+    state: Reader,
+    piece: &[u8],
+    table: &'a mut [MaybeUninit<Row>],
+) -> (Read, &'a [Row]) {
+    // SAFETY: both slices outlive the call, which reads the first and writes whole numbers within the second, of which it
+    // reads none; being `&mut`, the second overlaps nothing. The pointer of an empty slice is not null.
+    let read = unsafe {
         mdb_reader_read(
             state,
             piece.as_ptr(),
             piece.len(),
-            table.as_mut_ptr(),
-            table.len(),
+            table.as_mut_ptr().cast(),
+            size_of::<Row>() / size_of::<u64>() * table.len(),
         )
-    }
+    };
+    let filled = &table[..read.count as usize];
+    // SAFETY: the call has written the rows that it counts; a row that it may have written is as long as one that it has.
+    (read, unsafe { &*(ptr::from_ref(filled) as *const [Row]) })
+}
+
+/// A row that is not written yet.
+pub const fn no_row() -> MaybeUninit<Row> {
+    MaybeUninit::uninit()
 }
 
 pub fn reader_verdict(state: Reader) -> Verdict {
@@ -188,77 +242,19 @@ pub fn writer_verdict(state: Writer) -> Verdict {
     unsafe { mdb_writer_verdict(state) }
 }
 
-#[cfg(feature = "whole")]
-pub use whole::*;
+pub fn judge(tag: &[u8], shard: &[u8]) -> Verdict {
+    // SAFETY: both slices outlive the call, which only reads them; the pointer of an empty slice is not null.
+    unsafe { mdb_judge(tag.as_ptr(), tag.len(), shard.as_ptr(), shard.len()) }
+}
 
-#[cfg(feature = "whole")]
-mod whole {
-    use super::Verdict;
+pub fn find_chunk(tag: &[u8], shard: &[u8], hash: Hash) -> FoundChunk {
+    // SAFETY: both slices outlive the call, which only reads them; the pointer of an empty slice is not null.
+    unsafe { mdb_find_chunk(tag.as_ptr(), tag.len(), shard.as_ptr(), shard.len(), hash) }
+}
 
-    #[derive(Clone, Copy)]
-    #[repr(C)]
-    pub struct Hash {
-        pub hash: [u64; 4],
-    }
-
-    #[derive(Clone, Copy)]
-    #[repr(C)]
-    pub struct FoundChunk {
-        pub at: u64,
-        pub said: u32,
-        pub number: u32,
-        pub block: u32,
-        pub index: u32,
-    }
-
-    #[derive(Clone, Copy)]
-    #[repr(C)]
-    pub struct FoundFile {
-        pub at: u64,
-        pub said: u32,
-        pub number: u32,
-        pub file: u32,
-    }
-
-    extern "C" {
-        fn mdb_judge(tag: *const u8, tag_length: usize, shard: *const u8, length: usize)
-            -> Verdict;
-        fn mdb_find_chunk(
-            tag: *const u8,
-            tag_length: usize,
-            shard: *const u8,
-            length: usize,
-            hash: Hash,
-        ) -> FoundChunk;
-        fn mdb_find_file(
-            tag: *const u8,
-            tag_length: usize,
-            shard: *const u8,
-            length: usize,
-            hash: Hash,
-        ) -> FoundFile;
-    }
-
-    pub fn judge(tag: &[u8], shard: &[u8]) -> Verdict {
-        // SAFETY: both slices outlive the call, which only reads them; the pointer of an empty slice is not null.
-        unsafe { mdb_judge(tag.as_ptr(), tag.len(), shard.as_ptr(), shard.len()) }
-    }
-
-    pub fn find_chunk(tag: &[u8], shard: &[u8], hash: Hash) -> FoundChunk {
-        // SAFETY: both slices outlive the call, which only reads them; the pointer of an empty slice is not null.
-        unsafe { mdb_find_chunk(tag.as_ptr(), tag.len(), shard.as_ptr(), shard.len(), hash) }
-    }
-
-    pub fn find_file(tag: &[u8], shard: &[u8], hash: Hash) -> FoundFile {
-        // SAFETY: both slices outlive the call, which only reads them; the pointer of an empty slice is not null.
-        unsafe { mdb_find_file(tag.as_ptr(), tag.len(), shard.as_ptr(), shard.len(), hash) }
-    }
-
-    const _: () = {
-        assert!(size_of::<Hash>() == 32);
-        assert!(size_of::<FoundChunk>() == 24);
-        assert!(size_of::<FoundFile>() == 24);
-    };
+pub fn find_file(tag: &[u8], shard: &[u8], hash: Hash) -> FoundFile {
+    // SAFETY: both slices outlive the call, which only reads them; the pointer of an empty slice is not null.
+    unsafe { mdb_find_file(tag.as_ptr(), tag.len(), shard.as_ptr(), shard.len(), hash) }
 }
 
 /// The sizes that the C declarations have.
@@ -274,4 +270,7 @@ const _: () = {
     assert!(size_of::<Read>() == 368);
     assert!(size_of::<Offer>() == 72);
     assert!(size_of::<Written>() == 152);
+    assert!(size_of::<Hash>() == 32);
+    assert!(size_of::<FoundChunk>() == 24);
+    assert!(size_of::<FoundFile>() == 24);
 };

@@ -1,11 +1,10 @@
 //! Shards read and written through a library that is proved to follow its written rules.
 //!
 //! - [`Reader`] reads a shard in pieces, [`Writer`] writes one record by record.
-//! - With the feature `whole`, `judge` answers for a whole shard in a buffer, and `find_chunk` and `find_file` look for a
-//!   hash.
+//! - [`judge`] answers for a whole shard in a buffer, [`find_chunk`] and [`find_file`] look for a hash in it.
 //!
-//! The proved part is the archive `libhost.a`, for x86-64 only; `rt staticlib host` makes it. This crate adds types around
-//! it and no rules. It allocates nothing.
+//! The proved part is the archive `libmelagbosun.a`, for x86-64 only; `./archive` at the top of the repository makes it.
+//! This crate adds types around it and no rules. It allocates nothing.
 //!
 //! ```
 //! use melagbosun::{Reader, Record};
@@ -32,14 +31,12 @@
 
 mod error;
 mod ffi;
-#[cfg(feature = "whole")]
 mod find;
 mod reader;
 mod record;
 mod writer;
 
 pub use error::{Refusal, Summary, Totals, Verdict};
-#[cfg(feature = "whole")]
 pub use find::{find_chunk, find_file, judge, FoundChunk, FoundFile};
 pub use reader::{Reader, Said, Step};
 pub use record::{BlockNumber, ChunkIndex, FileNumber, Hash, Position, Record};

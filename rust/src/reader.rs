@@ -32,9 +32,6 @@ pub enum Said {
 /// One row more than a piece of 4,096 bytes fills, even after a carry of 47: so one call takes the whole piece.
 const ROWS: usize = 87;
 
-/// The rows for a small piece, since a table is cleared for every piece.
-const FEW_ROWS: usize = 8;
-
 impl Reader {
     /// A fresh reader. With a tag that is not 32 bytes it has refused with 2.
     pub fn new(tag: &[u8]) -> Self {
@@ -63,27 +60,14 @@ impl Reader {
     /// # Errors
     ///
     /// The refusal, if the reader refuses this piece or has refused before. The good records before it were handed out.
-    pub fn read(&mut self, piece: &[u8], visit: impl FnMut(Record)) -> Result<(), Refusal> {
-        if piece.len() <= FEW_ROWS * crate::ENTRY_SIZE {
-            self.read_by::<FEW_ROWS>(piece, visit)
-        } else {
-            self.read_by::<ROWS>(piece, visit)
-        }
-    }
-
-    /// Takes a whole piece by way of a table of so many rows.
-    fn read_by<const N: usize>(
-        &mut self,
-        piece: &[u8],
-        mut visit: impl FnMut(Record),
-    ) -> Result<(), Refusal> {
-        let mut table = [[0; 9]; N];
+    pub fn read(&mut self, piece: &[u8], mut visit: impl FnMut(Record)) -> Result<(), Refusal> {
+        let mut table = [const { ffi::no_row() }; ROWS];
         let mut left = piece;
         loop {
-            let answer = ffi::reader_read(self.state, left, &mut table);
+            let (answer, rows) = ffi::reader_read(self.state, left, &mut table);
             self.state = answer.reader;
             left = &left[answer.taken as usize..];
-            for row in &table[..answer.count as usize] {
+            for row in rows {
                 visit(row.into());
             }
             match answer.said {

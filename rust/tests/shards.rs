@@ -223,7 +223,6 @@ fn a_refusal_is_an_error_with_a_sentence() {
     );
 }
 
-#[cfg(feature = "whole")]
 #[test]
 fn whole_shards() {
     use melagbosun::{
