@@ -9,7 +9,7 @@ use melagbosun::Record;
 #[inline(always)]
 pub fn fold(sum: &mut u64, record: &Record) {
     let at = record.position().0;
-    let pair = |low: u32, high: u32| u64::from(low) | u64::from(high) << 32;
+    let pair = |a: u32, b: u32| u64::from(a) ^ u64::from(b).rotate_left(29);
     let (kind, hash, x, y) = match *record {
         Record::Header {
             tag,

@@ -34,13 +34,11 @@ const WAYS: &[Way] = &[
         name: "this reader, `mdb_reader_step`",
         go: by_step,
     },
-    #[cfg(feature = "whole")]
     Way {
         key: "judge",
         name: "`mdb_judge`, no records handed out",
         go: by_judge,
     },
-    #[cfg(feature = "whole")]
     Way {
         key: "find",
         name: "`mdb_find_chunk`, hash absent",
@@ -96,13 +94,11 @@ fn by_step(tag: &[u8; 32], input: &Input, _: &mut [u8]) -> u64 {
     sum
 }
 
-#[cfg(feature = "whole")]
 fn by_judge(tag: &[u8; 32], input: &Input, _: &mut [u8]) -> u64 {
     melagbosun::judge(tag, &input.shard).expect("a good shard");
     0
 }
 
-#[cfg(feature = "whole")]
 fn by_find(tag: &[u8; 32], input: &Input, _: &mut [u8]) -> u64 {
     let absent = melagbosun::Hash([1, 2, 3, 4]);
     let found = melagbosun::find_chunk(tag, &input.shard, absent);
@@ -136,15 +132,37 @@ fn timed(way: &Way, input: &Input, buffer: &mut [u8]) -> (f64, u64) {
     (time.as_nanos() as f64 / input.records() as f64, sum)
 }
 
-/// The middle one and the shortest.
-fn middle_and_least(mut times: Vec<f64>) -> [f64; 2] {
-    times.sort_by(f64::total_cmp);
-    [times[times.len() / 2], times[0]]
+/// What a way's rounds come to, in nanoseconds per record, and how many times the ordinary reader's time that is.
+struct Measured {
+    median: f64,
+    ratio: f64,
+    least: f64,
+    least_ratio: f64,
+}
+
+fn median(mut numbers: Vec<f64>) -> f64 {
+    numbers.sort_by(f64::total_cmp);
+    numbers[numbers.len() / 2]
+}
+
+fn least(numbers: &[f64]) -> f64 {
+    numbers.iter().copied().fold(f64::INFINITY, f64::min)
+}
+
+/// The rounds of a way beside those of the ordinary reader: the ratio is the median of the rounds' ratios.
+fn beside(times: &[f64], ordinary: &[f64]) -> Measured {
+    let ratios = times.iter().zip(ordinary).map(|(time, of)| time / of);
+    Measured {
+        median: median(times.to_vec()),
+        ratio: median(ratios.collect()),
+        least: least(times),
+        least_ratio: least(times) / least(ordinary),
+    }
 }
 
 /// The times of all ways on one input, round by round one after the other. All readers must come to the same sum, and the
 /// writer to the same bytes.
-fn measured(input: &Input, rounds: usize) -> Vec<[f64; 2]> {
+fn measured(input: &Input, rounds: usize) -> Vec<Measured> {
     let mut times = vec![Vec::new(); WAYS.len()];
     let mut buffer = vec![0; input.shard.len()];
     let (_, wanted) = timed(&WAYS[0], input, &mut buffer);
@@ -160,25 +178,27 @@ fn measured(input: &Input, rounds: usize) -> Vec<[f64; 2]> {
             }
         }
     }
-    times.into_iter().map(middle_and_least).collect()
+    times.iter().map(|one| beside(one, &times[0])).collect()
 }
 
 fn table(rounds: usize) {
     let inputs = [empty(), chunks(), files()];
     let all: Vec<_> = inputs.iter().map(|one| measured(one, rounds)).collect();
     let names: Vec<&str> = inputs.iter().map(|input| input.name).collect();
-    for (which, title) in ["ns per record, median", "ns per record, fastest round"]
-        .iter()
-        .enumerate()
-    {
+    type Cell = fn(&Measured) -> [f64; 2];
+    let titles: [(&str, Cell); 2] = [
+        ("ns per record, median", |m| [m.median, m.ratio]),
+        ("ns per record, fastest round", |m| [m.least, m.least_ratio]),
+    ];
+    for (title, cell) in titles {
         println!("| {title} | {} |", names.join(" | "));
         println!("|---|{}", "---:|".repeat(inputs.len()));
         for (i, way) in WAYS.iter().enumerate() {
-            let cell = |one: &Vec<[f64; 2]>| {
-                let (time, ordinary) = (one[i][which], one[0][which]);
-                format!("{time:.1} ({:.2}×)", time / ordinary)
-            };
-            let cells: Vec<String> = all.iter().map(cell).collect();
+            let cells = all.iter().map(|one| {
+                let [time, ratio] = cell(&one[i]);
+                format!("{time:.1} ({ratio:.2}×)")
+            });
+            let cells: Vec<String> = cells.collect();
             println!("| {} | {} |", way.name, cells.join(" | "));
         }
         println!();
