@@ -4,8 +4,9 @@
  * No call keeps, allocates or frees anything: a state goes in by value and the next one comes back in the answer. A lent
  * slice is a pointer and a length; an empty one may have any pointer but NULL, and two lent to one call do not overlap.
  *
- * Each function is proved to answer, for every state and all bytes, what crates/host/specs says. A state that
- * was not given out by these functions still gets an answer and touches nothing but the lent bytes.
+ * Each function is proved to answer, for every state and all bytes, what crates/host/specs says, by way of the specs of
+ * reader, writer and finder. A state that was not given out by these functions still gets an answer and touches nothing but
+ * the lent bytes.
  */
 #ifndef MELAGBOSUN_H
 #define MELAGBOSUN_H
