@@ -11,7 +11,8 @@ use words::hash::same_hash;
 use words::number::joined;
 ghost use mathlib.Core.Path.{_≡_};
 ghost use Prim.Native.Nat.{_+_, _≤_, _<_};
-ghost use lib.Dec.{eqb, leb};
+ghost use mathlib.Core.Bool.{_&&_, _||_};
+ghost use lib.Dec.{eqb, leb, ltb};
 ghost use Rattle.words.specs.Record.{isOnes};
 ghost use Rattle.words.specs.Checks.{pick, fine, _unless_then_};
 ghost use Rattle.rules.specs.Rules.{bit31, bit30, fits, furtherRecords, headerFault, bookendFault, fileHeadFault, segmentFault, plainFault, xorbHeadFault, chunkFault, footerFault, faultOf};
@@ -96,24 +97,16 @@ fn fits_in(p: u64, m: u64, rest: u64) -> bool
     }
 }
 
-// Whether sum + b is at most total, and whether it is total.
-fn within(sum: u64, b: u64, total: u64) -> bool
-    ensures { λ r. ⌜ r ≡ leb (sum + b) total ⌝ }
+// Whether a chunk's bytes stay within what its head declares, and the last one's reach it.
+fn fills(left: u32, sum: u64, bytes: u64, total: u64) -> bool
+    ensures { λ r. ⌜ r ≡ (leb (sum + bytes) total && (ltb 1 left || eqb (sum + bytes) total)) ⌝ }
 {
-    if sum <= total {
-        b <= total - sum
-    } else {
+    if total < sum {
         false
-    }
-}
-
-fn ends_at(sum: u64, b: u64, total: u64) -> bool
-    ensures { λ r. ⌜ r ≡ eqb (sum + b) total ⌝ }
-{
-    if sum <= total {
-        total - sum == b
+    } else if 1 < left {
+        bytes <= total - sum
     } else {
-        false
+        total - sum == bytes
     }
 }
 
@@ -156,15 +149,13 @@ fn chunk_fault(left: u32, sum: u64, total: u64, w: Words) -> u32
 {
     let start = w.a as u64;
     let bytes = w.b as u64;
-    first4(
+    first3(
         Refusal::RESERVED,
         (w.c == 0) & (w.d == 0),
         Refusal::CHUNK_SUM,
         start == sum,
         Refusal::CHUNK_SUM,
-        within(sum, bytes, total),
-        Refusal::CHUNK_SUM,
-        (1 < left) | ends_at(sum, bytes, total),
+        fills(left, sum, bytes, total),
     )
 }
 
