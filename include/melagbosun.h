@@ -2,7 +2,7 @@
  * `cc program.c -Iinclude -Ltarget/staticlib -lmelagbosun`.
  *
  * No call keeps, allocates or frees anything: a state goes in by value and the next one comes back in the answer. A lent
- * slice is a pointer and a length; an empty one may have any pointer but NULL, and two lent to one call do not overlap.
+ * slice is a pointer and a length; an empty one may have any pointer but NULL, and those lent to one call do not overlap.
  *
  * Each function is proved to answer, for every state and all bytes, what crates/host/specs says, by way of the specs of
  * reader, writer and finder. A state that was not given out by these functions still gets an answer and touches nothing but
@@ -34,7 +34,8 @@ enum mdb_refusal {
     MDB_FOOTER_VERSION = 12, /* footer: the version is not 1 */
     MDB_OFFSET = 13,         /* footer: one of the three offsets is wrong */
     MDB_AFTER_END = 14,      /* a byte follows the end; position of that byte */
-    MDB_BUFFER = 15,         /* writer: the buffer is shorter than the record; mdb_reader_read: the table is shorter than a row */
+    MDB_BUFFER = 15,         /* writer: the buffer is shorter than the record; reader: the carry is shorter than MDB_CARRY, or the
+                                table than a row */
     MDB_NOT_DUE = 16         /* writer: this kind of record is not due now, or there is no such kind */
 };
 
@@ -64,12 +65,14 @@ typedef struct {
     mdb_due due;
     uint32_t flags, entries; /* those of the last file head */
     uint32_t footer;         /* 1 if the header announces a footer, else 0 */
+    uint32_t have;           /* of a reader: how many bytes its carry has; of a writer: 0 */
 } mdb_place;
 
+/* A reader does not hold the bytes so far of the record due: its carry, MDB_CARRY bytes, is lent to each call beside it. What
+ * stands in the carry at first makes no difference; between two calls it must be left as it is. */
+enum { MDB_CARRY = 200 };
 typedef struct {
-    uint8_t carry[200]; /* the bytes so far of the record due, then zeros */
     uint64_t tag[4];
-    uint64_t have; /* how many bytes the carry has */
     mdb_place place;
 } mdb_reader;
 
@@ -165,15 +168,18 @@ mdb_found_file mdb_find_file(const uint8_t *tag, size_t tag_length, const uint8_
 mdb_reader mdb_reader_new(const uint8_t *tag, size_t length);
 
 /* One call: it takes the smaller of the piece's length and the bytes missing from the record due, and hands out at most one
- * record. After a refusal every call takes nothing and repeats it. */
-mdb_step mdb_reader_step(mdb_reader state, const uint8_t *piece, size_t length);
+ * record. After a refusal every call takes nothing and repeats it. Of the carry only its first `have` bytes are looked at, and
+ * only those that it has after the call are written. A carry that is too short is refused with 15 where the reader stands; that
+ * reader has not refused, and nothing was taken. */
+mdb_step mdb_reader_step(mdb_reader state, uint8_t *carry, size_t carry_length, const uint8_t *piece, size_t length);
 
 /* A whole piece: calls of mdb_reader_step until it is used up or refused or the table is full. Each record found fills a row of
  * MDB_ROW numbers: kind, at, offset, hash[0] to hash[3], a + 2^32 b, c + 2^32 d. No other number of the table changes. `length`
- * and `numbers` count the piece's bytes and the table's numbers. A table shorter than a row is refused with 15 where the
- * reader stands; that reader has not refused, and nothing was taken. */
+ * and `numbers` count the piece's bytes and the table's numbers. A table shorter than a row is refused as a carry that is too
+ * short. */
 enum { MDB_ROW = 9 };
-mdb_read mdb_reader_read(mdb_reader state, const uint8_t *piece, size_t length, uint64_t *table, size_t numbers);
+mdb_read mdb_reader_read(mdb_reader state, uint8_t *carry, size_t carry_length, const uint8_t *piece, size_t length,
+                         uint64_t *table, size_t numbers);
 
 /* The refusal if there was one, the counts after the end, else 1 at the record due. Asking changes nothing. */
 mdb_verdict mdb_reader_verdict(mdb_reader state);

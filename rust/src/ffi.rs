@@ -33,14 +33,13 @@ pub struct Place {
     flags: u32,
     entries: u32,
     footer: u32,
+    have: u32,
 }
 
 #[derive(Clone, Copy, Debug)]
 #[repr(C)]
 pub struct Reader {
-    carry: [u8; 200],
     tag: [u64; 4],
-    have: u64,
     place: Place,
 }
 
@@ -147,14 +146,25 @@ pub struct FoundFile {
 pub const NOTHING: u32 = 0;
 pub const FOUND: u32 = 1;
 
+/// The bytes that are lent beside a reader: those so far of the record due.
+pub type Carry = [u8; 200];
+
 /// A row of the table that [`reader_read`] fills: kind, at, offset, the hash, a and b, c and d.
 pub type Row = [u64; 9];
 
 extern "C" {
     fn mdb_reader_new(tag: *const u8, length: usize) -> Reader;
-    fn mdb_reader_step(state: Reader, piece: *const u8, length: usize) -> Step;
+    fn mdb_reader_step(
+        state: Reader,
+        carry: *mut u8,
+        carry_length: usize,
+        piece: *const u8,
+        length: usize,
+    ) -> Step;
     fn mdb_reader_read(
         state: Reader,
+        carry: *mut u8,
+        carry_length: usize,
         piece: *const u8,
         length: usize,
         table: *mut u64,
@@ -187,23 +197,36 @@ pub fn reader_new(tag: &[u8]) -> Reader {
 }
 
 #[inline]
-pub fn reader_step(state: Reader, piece: &[u8]) -> Step {
-    // SAFETY: the slice outlives the call, which only reads it; the pointer of an empty slice is not null. The state goes by
-    // value, and every state gets an answer.
-    unsafe { mdb_reader_step(state, piece.as_ptr(), piece.len()) }
+pub fn reader_step(state: Reader, carry: &mut Carry, piece: &[u8]) -> Step {
+    // SAFETY: carry and piece outlive the call, which writes within the first and only reads the second; being `&mut`, the
+    // first overlaps nothing. The pointer of an empty slice is not null. The state goes by value, and every state gets an
+    // answer.
+    unsafe {
+        mdb_reader_step(
+            state,
+            carry.as_mut_ptr(),
+            carry.len(),
+            piece.as_ptr(),
+            piece.len(),
+        )
+    }
 }
 
 #[inline]
 pub fn reader_read<'a>(
     state: Reader,
+    carry: &mut Carry,
     piece: &[u8],
     table: &'a mut [MaybeUninit<Row>],
 ) -> (Read, &'a [Row]) {
-    // SAFETY: both slices outlive the call, which reads the first and writes whole numbers within the second, of which it
-    // reads none; being `&mut`, the second overlaps nothing. The pointer of an empty slice is not null.
+    // SAFETY: carry, piece and table outlive the call, which writes within the carry, reads the piece, and writes whole numbers
+    // within the table, of which it reads none; being `&mut`, carry and table overlap nothing. The pointer of an empty slice
+    // is not null.
     let read = unsafe {
         mdb_reader_read(
             state,
+            carry.as_mut_ptr(),
+            carry.len(),
             piece.as_ptr(),
             piece.len(),
             table.as_mut_ptr().cast(),
@@ -262,12 +285,12 @@ const _: () = {
     assert!(size_of::<Totals>() == 40);
     assert!(size_of::<Due>() == 24);
     assert!(size_of::<Place>() == 96);
-    assert!(size_of::<Reader>() == 336);
+    assert!(size_of::<Reader>() == 128);
     assert!(size_of::<Writer>() == 128);
     assert!(size_of::<Record>() == 72);
     assert!(size_of::<Verdict>() == 64);
-    assert!(size_of::<Step>() == 432);
-    assert!(size_of::<Read>() == 368);
+    assert!(size_of::<Step>() == 224);
+    assert!(size_of::<Read>() == 160);
     assert!(size_of::<Offer>() == 72);
     assert!(size_of::<Written>() == 152);
     assert!(size_of::<Hash>() == 32);

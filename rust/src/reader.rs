@@ -7,6 +7,7 @@ use crate::{ffi, Record, Refusal, Verdict};
 #[derive(Clone, Debug)]
 pub struct Reader {
     state: ffi::Reader,
+    carry: ffi::Carry,
 }
 
 /// What one call of [`Reader::step`] gives.
@@ -35,15 +36,17 @@ const ROWS: usize = 87;
 impl Reader {
     /// A fresh reader. With a tag that is not 32 bytes it has refused with 2.
     pub fn new(tag: &[u8]) -> Self {
-        let state = ffi::reader_new(tag);
-        Reader { state }
+        Reader {
+            state: ffi::reader_new(tag),
+            carry: [0; 200],
+        }
     }
 
     /// One call: takes the smaller of the piece's length and the bytes missing from the record due, and hands out at most
     /// one record. After a refusal every call takes nothing and repeats it.
     #[inline]
     pub fn step(&mut self, piece: &[u8]) -> Step {
-        let answer = ffi::reader_step(self.state, piece);
+        let answer = ffi::reader_step(self.state, &mut self.carry, piece);
         self.state = answer.reader;
         Step {
             taken: answer.taken as usize,
@@ -64,7 +67,7 @@ impl Reader {
         let mut table = [const { ffi::no_row() }; ROWS];
         let mut left = piece;
         loop {
-            let (answer, rows) = ffi::reader_read(self.state, left, &mut table);
+            let (answer, rows) = ffi::reader_read(self.state, &mut self.carry, left, &mut table);
             self.state = answer.reader;
             left = &left[answer.taken as usize..];
             for row in rows {

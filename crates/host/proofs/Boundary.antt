@@ -1,5 +1,5 @@
 -- The way out and in again changes nothing, of a place, a reader, a writer and an offer. Assumes nothing.
-use mathlib.Core.Path.{_≡_, refl, ap}
+use mathlib.Core.Path.{_≡_, refl, ap, ap₂}
 use mathlib.Core.Bool.{Bool, true, false}
 use mathlib.Core.List.{List}
 use Prim.Native.Nat.{ℕ, _<_}
@@ -9,7 +9,8 @@ use Rattle.rules.specs.declared.Due.{Due}
 use Rattle.rules.specs.declared.Due.the-variants as due
 use Rattle.rules.specs.declared.Fields.{Fields}
 use Rattle.rules.specs.declared.Fields.the-variants as fields
-use Rattle.reader.specs.declared.Reader.{Reader}
+use Rattle.words.specs.Le.{low}
+use Rattle.reader.specs.declared.Bare.{Bare}
 use Rattle.writer.specs.declared.Writer.{Writer}
 use Rattle.host.specs.Boundary.{yes, mark, dueIn, dueOut, placeIn, placeOut, readerIn, readerOut, writerIn, writerOut, offerBy, offerIn}
 
@@ -29,14 +30,16 @@ due-back due.Footer = refl
 due-back due.End = refl
 due-back (due.Refused number) = refl
 
-pub place-back : (p : Place) → placeIn (placeOut p) ≡ p
-place-back p = rw (mark-back (p .footer), due-back (p .due))
+pub place-back : (p : Place) (have : ℕ) → placeIn (placeOut p have) ≡ p
+place-back p have = rw (mark-back (p .footer), due-back (p .due))
 
-pub reader-back : (r : Reader) → readerIn (readerOut r) ≡ r
-reader-back r = ap (λ (p : Place). record { carry = r .carry; have = r .have; tag = r .tag; place = p }) (place-back (r .place))
+pub reader-back : (b : Bare) → b .have < 4294967296 → readerIn (readerOut b) ≡ b
+reader-back b l =
+    let e : low (b .have) ≡ b .have = omega arith in
+    ap₂ (λ (n : ℕ) (p : Place). record { have = n; tag = b .tag; place = p }) e (place-back (b .place) (low (b .have)))
 
 pub writer-back : (w : Writer) → writerIn (writerOut w) ≡ w
-writer-back w = ap (λ (p : Place). record { tag = w .tag; place = p }) (place-back (w .place))
+writer-back w = ap (λ (p : Place). record { tag = w .tag; place = p }) (place-back (w .place) 0)
 
 pub fields-back : (hash : List ℕ) (f : Fields) → offerIn (offerBy hash f) ≡ record { hash = hash; fields = f }
 fields-back hash (fields.Header size) = refl

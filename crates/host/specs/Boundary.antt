@@ -5,6 +5,7 @@ use mathlib.Core.Bool.{Bool, not}
 use mathlib.Core.List.{List}
 use lib.Dec.{eqb, ltb}
 use Rattle.words.specs.Checks.{pick}
+use Rattle.words.specs.Le.{low}
 use Rattle.rules.specs.Offers.{rowOf, notDue}
 use Rattle.rules.specs.Verdicts.{numbersOf}
 use Rattle.rules.specs.declared.Totals.{Totals}
@@ -17,9 +18,9 @@ use Rattle.rules.specs.declared.Due.the-variants as due
 use Rattle.rules.specs.declared.Offer.{Offer}
 use Rattle.rules.specs.declared.Fields.{Fields}
 use Rattle.rules.specs.declared.Fields.the-variants as fields
-use Rattle.reader.specs.declared.Reader.{Reader}
+use Rattle.reader.specs.declared.Bare.{Bare}
+use Rattle.reader.specs.declared.Call.{Call}
 use Rattle.reader.specs.declared.Read.{Read}
-use Rattle.reader.specs.declared.Step.{Step}
 use Rattle.reader.specs.declared.Said.{Said}
 use Rattle.reader.specs.declared.Said.the-variants as said
 use Rattle.writer.specs.Write.{refuses, writtenOf, bufferOf}
@@ -93,8 +94,9 @@ placeIn s = record {
   due = dueIn (s .due);
 }
 
-abbrev pub placeOut : Place → PlaceState
-placeOut p = record {
+-- with the bytes that a reader's carry has
+abbrev pub placeOut : Place → ℕ → PlaceState
+placeOut p have = record {
   at = p .at .0;
   offset = p .offset .0;
   totals = totalsOut (p .totals);
@@ -102,6 +104,7 @@ placeOut p = record {
   flags = p .flags;
   entries = p .entries;
   footer = mark (p .footer);
+  have = have;
 }
 
 -- ## Records, offers and verdicts
@@ -164,11 +167,12 @@ verdictOut v = record {
 
 -- ## Readers
 
-abbrev pub readerIn : ReaderState → Reader
-readerIn s = record { carry = s .carry; have = s .have; tag = s .tag; place = placeIn (s .place) }
+abbrev pub readerIn : ReaderState → Bare
+readerIn s = record { have = s .place .have; tag = s .tag; place = placeIn (s .place) }
 
-abbrev pub readerOut : Reader → ReaderState
-readerOut r = record { carry = r .carry; tag = r .tag; have = r .have; place = placeOut (r .place) }
+-- `have` goes out as 32 bits; that of a begun reader is at most 200
+abbrev pub readerOut : Bare → ReaderState
+readerOut b = record { tag = b .tag; place = placeOut (b .place) (low (b .have)) }
 
 abbrev pub saidOut : Said → ℕ
 saidOut said.Nothing = 0
@@ -184,7 +188,7 @@ refusalIn said.Nothing = noRefusal
 refusalIn said.Record = noRefusal
 refusalIn (said.Refused refusal) = refusal
 
-abbrev pub stepOut : Step → StepState
+abbrev pub stepOut : Call → StepState
 stepOut s = record {
   reader = readerOut (s .reader);
   found = recordOut (s .answer .found);
@@ -210,7 +214,7 @@ abbrev pub writerIn : WriterState → Writer
 writerIn s = record { tag = s .tag; place = placeIn (s .place) }
 
 abbrev pub writerOut : Writer → WriterState
-writerOut w = record { tag = w .tag; place = placeOut (w .place) }
+writerOut w = record { tag = w .tag; place = placeOut (w .place) 0 }
 
 abbrev pub wroteOut : Answer → ℕ
 wroteOut (answer.Wrote size) = size

@@ -7,10 +7,11 @@ use Rattle.words.specs.Le.{Bytes}
 use Rattle.rules.specs.Offers.{InRange}
 use Rattle.rules.specs.declared.Place.{Place}
 use Rattle.rules.specs.declared.Offer.{Offer}
-use Rattle.reader.specs.Stream.{fresh, stepOf}
-use Rattle.reader.specs.Rows.{readFor}
+use Rattle.reader.specs.Stream.{fresh}
+use Rattle.reader.specs.Beside.{lend, bareOf, callFor, carryFor}
+use Rattle.reader.specs.Rows.{readWith}
 use Rattle.reader.specs.Readings.{Begun}
-use Rattle.reader.specs.declared.Reader.{Reader}
+use Rattle.reader.specs.declared.Bare.{Bare}
 use Rattle.writer.specs.Write as write
 use Rattle.writer.specs.Writings.{Call, InRanges, written}
 use Rattle.writer.specs.declared.Writer.{Writer}
@@ -19,11 +20,13 @@ use Rattle.host.specs.declared.ReaderState.{ReaderState}
 use Rattle.host.specs.declared.WriterState.{WriterState}
 use Rattle.host.specs.declared.OfferState.{OfferState}
 
--- a reader that the boundary gave out: a fresh one, or that of an answer to one given out before
-pub data Given : ReaderState → Type 0 where
-  first : (tag : List ℕ) → Given (readerOut (fresh tag))
-  stepped : {s : ReaderState} → Given s → (piece : List ℕ) → Bytes piece → Given (stepOut (stepOf (readerIn s) piece) .reader)
-  read : {s : ReaderState} → Given s → (piece : List ℕ) → Bytes piece → (table : List ℕ) → Given (readOut (readFor (readerIn s) piece table .answer) .reader)
+-- a reader that the boundary gave out and the bytes lent beside it: a fresh one with any bytes, or those after an answer to what was given out before
+pub data Given : ReaderState → List ℕ → Type 0 where
+  first : (tag carry : List ℕ) → Given (readerOut (bareOf (fresh tag))) carry
+  stepped : {s : ReaderState} {carry : List ℕ} → Given s carry → (piece : List ℕ) → Bytes piece
+      → Given (stepOut (callFor (readerIn s) carry piece) .reader) (carryFor (readerIn s) carry piece)
+  read : {s : ReaderState} {carry : List ℕ} → Given s carry → (piece : List ℕ) → Bytes piece → (table : List ℕ)
+      → Given (readOut (readWith (readerIn s) carry piece table .answer) .reader) (readWith (readerIn s) carry piece table .carry)
 
 -- a writer that the boundary gave out, begun with a tag: a fresh one, or that of an answer to one given out before
 pub data GivenWriter : List ℕ → WriterState → Type 0 where
@@ -38,13 +41,13 @@ pub record WrittenBy (tag : List ℕ) (w : Writer) : Type 0 where
   pub same : w ≡ written (write.fresh tag) calls .writer
 
 pub record BoundaryClaim : Type 0 where
-  pub place : (p : Place) → placeIn (placeOut p) ≡ p
-  pub reader : (r : Reader) → readerIn (readerOut r) ≡ r
+  pub place : (p : Place) (have : ℕ) → placeIn (placeOut p have) ≡ p
+  pub reader : (b : Bare) → b .have < 4294967296 → readerIn (readerOut b) ≡ b
   pub writer : (w : Writer) → writerIn (writerOut w) ≡ w
   -- every offer has numbers by which a host makes it, of a kind that is known
   pub offer : (o : Offer) → offerIn (offerOut o) ≡ o
   pub known : (o : Offer) → offerOut o .kind < 9
   -- what was given out is taken for a reader that beginning and calls give, of which all claims about readers hold
-  pub begun : (s : ReaderState) → Given s → Begun (readerIn s)
+  pub begun : (s : ReaderState) (carry : List ℕ) → Given s carry → Begun (lend (readerIn s) carry)
   -- what was given out is taken for a writer that calls give, of which all claims about writers hold
   pub writes : (tag : List ℕ) (s : WriterState) → GivenWriter tag s → WrittenBy tag (writerIn s)

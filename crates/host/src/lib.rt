@@ -27,7 +27,7 @@ pub struct DueState {
     pub left: u32,
 }
 
-// A place in the format. There is a footer unless `footer` is 0.
+// A place in the format. There is a footer unless `footer` is 0. Of a reader, `have` is how many bytes its carry has; of a writer it is 0.
 #[repr(C)]
 pub struct PlaceState {
     pub at: u64,
@@ -37,14 +37,13 @@ pub struct PlaceState {
     pub flags: u32,
     pub entries: u32,
     pub footer: u32,
+    pub have: u32,
 }
 
-// A reader between two calls.
+// A reader between two calls, without its carry, which is lent beside it.
 #[repr(C)]
 pub struct ReaderState {
-    pub carry: [u8; 200],
     pub tag: [u64; 4],
-    pub have: u64,
     pub place: PlaceState,
 }
 

@@ -109,8 +109,8 @@ pub fn place_in(s: PlaceState) -> Place
     }
 }
 
-pub fn place_out(p: Place) -> PlaceState
-    ensures { λ r. ⌜ r ≡ placeOut p ⌝ }
+pub fn place_out(p: Place, have: u32) -> PlaceState
+    ensures { λ r. ⌜ r ≡ placeOut p have ⌝ }
 {
     let at = p.at;
     let offset = p.offset;
@@ -124,5 +124,6 @@ pub fn place_out(p: Place) -> PlaceState
         flags: p.flags,
         entries: p.entries,
         footer: mark_of(p.footer),
+        have: have,
     }
 }

@@ -5,40 +5,36 @@ use crate::StepState;
 use crate::places::place_in;
 use crate::places::place_out;
 use crate::records::record_out;
+use reader::Bare;
+use reader::Call;
 use reader::Read;
-use reader::Reader;
 use reader::Said;
-use reader::Step;
 use rules::Position;
 use rules::Refusal;
+use words::number::low_half;
 ghost use mathlib.Core.Path.{_≡_};
 ghost use Rattle.host.specs.Boundary.{saidOut, refusalIn, readerIn, readerOut, stepOut, readOut};
 
-pub fn reader_in(s: ReaderState) -> Reader
+pub fn reader_in(s: ReaderState) -> Bare
     ensures { λ r. ⌜ r ≡ readerIn s ⌝ }
 {
-    let carry = s.carry;
     let tag = s.tag;
     let place = s.place;
-    Reader {
-        carry: carry,
-        have: s.have as usize,
+    Bare {
+        have: place.have as usize,
         tag: tag,
         place: place_in(place),
     }
 }
 
-pub fn reader_out(r: Reader) -> ReaderState
+pub fn reader_out(r: Bare) -> ReaderState
     ensures { λ s. ⌜ s ≡ readerOut r ⌝ }
 {
-    let carry = r.carry;
     let tag = r.tag;
     let place = r.place;
     ReaderState {
-        carry: carry,
         tag: tag,
-        have: r.have as u64,
-        place: place_out(place),
+        place: place_out(place, low_half(r.have as u64)),
     }
 }
 
@@ -68,7 +64,7 @@ fn refusal_in(s: Said) -> Refusal
     }
 }
 
-pub fn step_out(s: Step) -> StepState
+pub fn step_out(s: Call) -> StepState
     ensures { λ r. ⌜ r ≡ stepOut s ⌝ }
 {
     let reader = s.reader;

@@ -32,7 +32,7 @@ pub fn writer_out(w: Writer) -> WriterState
     let place = w.place;
     WriterState {
         tag: tag,
-        place: place_out(place),
+        place: place_out(place, 0),
     }
 }
 

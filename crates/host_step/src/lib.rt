@@ -3,14 +3,14 @@ use host::ReaderState;
 use host::StepState;
 use host::readers;
 ghost use mathlib.Core.Path.{_≡_};
-ghost use Rattle.reader.specs.Stream as stream;
+ghost use Rattle.reader.specs.Beside.{callFor, carryFor};
 ghost use Rattle.host.specs.Boundary.{readerIn, stepOut};
 
 // One call of the reader.
 #[no_mangle]
-pub extern "C" fn mdb_reader_step(state: ReaderState, piece: &[u8]) -> StepState
-    ensures { λ r. ⌜ r ≡ stepOut (stream.stepOf (readerIn state) (now (piece .entry))) ⌝ }
+pub extern "C" fn mdb_reader_step(state: ReaderState, carry: &mut [u8], piece: &[u8]) -> StepState
+    ensures { λ r. ⌜ (r ≡ stepOut (callFor (readerIn state) (now (carry .entry)) (now (piece .entry)))) × (now (carry .exit) ≡ carryFor (readerIn state) (now (carry .entry)) (now (piece .entry))) ⌝ }
 {
     let reader = readers::reader_in(state);
-    readers::step_out(reader.step(piece))
+    readers::step_out(reader.step(carry, piece))
 }

@@ -26,6 +26,11 @@ use Rattle.reader.specs.declared.Said.{Said}
 use Rattle.reader.specs.declared.Said.the-variants as said
 use Rattle.reader.specs.declared.Step.{Step}
 
+-- what holds of both holds of the one picked
+pub either : {A : Type 0} (P : A → Type 0) (t : Bool) {x y : A} → P x → P y → P (pick t x y)
+either P true a b = a
+either P false a b = b
+
 -- ## The three cases
 
 abbrev pub completed : Reader → List ℕ → Step
@@ -71,15 +76,11 @@ module _ (r : Reader) (piece : List ℕ) where
   -- ## Bytes taken
 
   pub no-more : NoMoreTaken r piece
-  no-more = by-case (λ s. s .answer .taken ≤ length piece) (λ e. go (verdictAt (r .place)) (eqb (length piece) 0)) (λ l. omega arith) (λ l. l)
+  no-more = by-case (λ s. s .answer .taken ≤ length piece) (λ e. go (verdictAt (r .place))) (λ l. omega arith) (λ l. l)
     where
-      by : (t : Bool) (x y : Step) → x .answer .taken ≡ 0 → y .answer .taken ≡ 0 → pick t x y .answer .taken ≤ length piece
-      by true x y e f = omega (arith, e)
-      by false x y e f = omega (arith, f)
-
-      go : (v : Verdict) (t : Bool) → stoppedBy v r (length piece) .answer .taken ≤ length piece
-      go (verdict.Refused refusal) t = omega arith
-      go (verdict.Accepted summary) t = by (eqb (length piece) 0) _ _ refl refl
+      go : (v : Verdict) → stoppedBy v r (length piece) .answer .taken ≤ length piece
+      go (verdict.Refused refusal) = omega arith
+      go (verdict.Accepted summary) = either (λ (s : Step). s .answer .taken ≤ length piece) (eqb (length piece) 0) (omega arith) (omega arith)
 
   pub some-more : r .have < sizeOf (r .place) → 0 < length piece → 0 < stepOf r piece .answer .taken
   some-more k l = by-case (λ s. 0 < s .answer .taken) (λ e. absurd (omega arith)) (λ m. l) (λ m. omega arith)

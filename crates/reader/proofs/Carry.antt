@@ -19,7 +19,7 @@ use Rattle.reader.proofs.Sizes.{size-least}
 
 -- ## Bytes put into the carry
 
-drop-zeros : (n m : ℕ) → drop n (replicate {A = ℕ} m 0) ≡ replicate (m - n) 0
+pub drop-zeros : (n m : ℕ) → drop n (replicate {A = ℕ} m 0) ≡ replicate (m - n) 0
 drop-zeros zero m = rw sub-zero
 drop-zeros (suc n) zero = rw zero-sub
 drop-zeros (suc n) (suc m) = rw suc-sub-suc (drop-zeros n m)

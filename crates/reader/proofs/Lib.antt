@@ -1,6 +1,7 @@
 pub mod Sizes
 pub mod Carry
 pub mod Calls
+pub mod Lending
 pub mod Bridge
 pub mod Reached
 pub mod Cut

@@ -27,7 +27,7 @@ use Rattle.reader.specs.declared.Reader.{Reader}
 use Rattle.reader.specs.declared.Step.{Step}
 use Rattle.reader.specs.declared.Said.{Said}
 use Rattle.reader.specs.declared.Said.the-variants as said
-use Rattle.reader.proofs.Calls.{completed, refuses}
+use Rattle.reader.proofs.Calls.{either, completed, refuses}
 use Rattle.reader.proofs.Reached.{stands}
 use Rattle.reader.proofs.Cut.{offers-run}
 use Rattle.reader.proofs.Turns.{long}
@@ -121,11 +121,6 @@ shows r b piece y table l = rw (long r piece table l) (shown piece y (length tab
 
 -- ## The reader after a read
 
--- of either of two
-either : (t : Bool) (x y : Reading) → Begun (x .answer .reader) → Begun (y .answer .reader) → Begun (pick t x y .answer .reader)
-either true x y a b = a
-either false x y a b = b
-
 module _ (piece : List ℕ) (y : Bytes piece) where
   turns : (left : ℕ) (r : Reader) → Begun r → (taken count : ℕ) (table : List ℕ) → Begun (reads left r piece taken count table .answer .reader)
   unfolding reads
@@ -133,8 +128,8 @@ module _ (piece : List ℕ) (y : Bytes piece) where
   turns (suc left) r b taken count table =
       let s = stepOf r (drop taken piece) in
       let n = after b (drop taken piece) (λ i. rw getD-drop (y (taken + i))) in
-      either (isRecord (s .answer .said)) _ _ (turns left (s .reader) n (taken + s .answer .taken) (count + 1) (puts table (9 * count) (rowIn (s .answer .found)))) n
+      either (λ (x : Reading). Begun (x .answer .reader)) (isRecord (s .answer .said)) (turns left (s .reader) n (taken + s .answer .taken) (count + 1) (puts table (9 * count) (rowIn (s .answer .found)))) n
 
 pub begun-read : (r : Reader) → Begun r → (piece : List ℕ) → Bytes piece → (table : List ℕ) → Begun (readFor r piece table .answer .reader)
 unfolding readFor
-begun-read r b piece y table = either (ltb (length table) 9) _ _ b (turns piece y (length table / 9) r b 0 0 table)
+begun-read r b piece y table = either (λ (x : Reading). Begun (x .answer .reader)) (ltb (length table) 9) b (turns piece y (length table / 9) r b 0 0 table)

@@ -2,7 +2,7 @@
 use mathlib.Core.Path.{_≡_, sym, _∙_}
 use mathlib.Core.Logic.{_⊎_, inl, inr}
 use mathlib.Core.List.{List}
-use Prim.Native.Nat.{ℕ, suc, _<_}
+use Prim.Native.Nat.{ℕ, suc, _≤_, _<_}
 use native.Mathlib.Omega.{arith}
 use lib.ListN.{length}
 use Rattle.words.specs.Le.{Bytes}
@@ -10,6 +10,8 @@ use Rattle.rules.specs.Rules.{sizeOf}
 use Rattle.reader.specs.Stream.{stepOf}
 use Rattle.reader.specs.Readings.{Begun, SomeTaken, EnoughClaim, ReaderClaim}
 use Rattle.reader.specs.declared.Reader.{Reader}
+use Rattle.reader.proofs.Sizes.{size-most}
+use Rattle.reader.proofs.Lending.{lend-back}
 use Rattle.reader.proofs.Calls.{no-more, some-more, refuses}
 use Rattle.reader.proofs.Reached.{stands, kept}
 use Rattle.reader.proofs.Cut.{offers-run, cut, whole, any-calls}
@@ -27,8 +29,15 @@ takes r b piece d l = go (kept r b .fits)
     go (inl h) = some-more r piece h l
     go (inr z) = absurd (omega (arith, d, z .0))
 
+few : (r : Reader) → Begun r → r .have ≤ 200
+few r b = go (kept r b .fits)
+  where
+    go : (r .have < sizeOf (r .place)) ⊎ ((sizeOf (r .place) ≡ 0) × (r .have ≡ 0)) → r .have ≤ 200
+    go (inl h) = omega (arith, h, size-most (r .place .due))
+    go (inr z) = omega (arith, z .1)
+
 pub reader : ReaderClaim
-reader = record { cut = cut; whole = whole; calls = any-calls; kept = kept; enough = enough; takes = takes; most = no-more; refused = refuses; shows = shows; reads = begun-read }
+reader = record { cut = cut; whole = whole; calls = any-calls; kept = kept; enough = enough; takes = takes; most = no-more; refused = refuses; shows = shows; reads = begun-read; few = few; lent = λ r b carry l. lend-back carry l r (kept r b .long) (kept r b .zeros) (few r b) }
 
 -- ONLY: what is said to be one thing is one thing; so two results of a function that promises `r ≡ X` are equal
 pub only : {A : Type 0} {x y : A} (z : A) → x ≡ z → y ≡ z → x ≡ y

@@ -1,15 +1,15 @@
--- The turns of a read: each is one call of `reads`, because where nothing is carried any more a record is judged by its own bytes, whatever the carry was;
--- and the bytes taken and the rows filled stay within what is there. Assumes nothing.
-use mathlib.Core.Path.{_≡_, refl, sym, ap, ap₂, _∙_}
+-- The turns of a read: each is one call of `reads`, because it judges the bytes that the carry has and those behind them, and nothing is carried after a
+-- record; and the bytes taken and the rows filled stay within what is there. Assumes nothing.
+use mathlib.Core.Path.{_≡_, refl, sym, ap, _∙_}
 use mathlib.Core.Logic.{_⊎_, inl, inr}
 use mathlib.Core.Bool.{Bool, true, false}
-use mathlib.Core.List.{List, _++_}
+use mathlib.Core.List.{List}
 use Prim.Native.Nat.{ℕ, zero, suc, _+_, _-_, _*_, _/_, _≤_, _<_}
-use native.Mathlib.Nat.{not-suc-le-zero, zero-add}
+use native.Mathlib.Nat.{not-suc-le-zero}
 use native.Mathlib.Numerals.{sub-one}
 use native.Mathlib.Omega.{arith}
 use lib.Dec.{eqb, ltb}
-use lib.ListN.{length, take, drop, length-take, length-drop}
+use lib.ListN.{length, drop, length-drop}
 use lib.Seq.{paste}
 use borrow.Author.Tests.{eq-eqb, ne-eqb, lt-ltb, le-ltb, eqb-true, eqb-false, ltb-true, ltb-false}
 use Rattle.words.specs.Checks.{pick}
@@ -22,13 +22,14 @@ use Rattle.rules.specs.Verdicts.{refused, refusalAt, verdictAt}
 use Rattle.rules.specs.declared.Place.{Place}
 use Rattle.rules.specs.declared.Verdict.{Verdict}
 use Rattle.rules.specs.declared.Verdict.the-variants as verdict
-use Rattle.reader.specs.Stream.{emptied, noRecord, settledBy, settled, stoppedBy, lacking, stepOf}
-use Rattle.reader.specs.Rows.{rowIn, isRecord, answered, endedBy, Reading, nextStep, reads, tooShort, readFor, standing, haltBy}
+use Rattle.reader.specs.Stream.{noRecord, settledBy, settled, stoppedBy, lacking, stepOf}
+use Rattle.reader.specs.Beside.{carryIn, lend, haltBy}
+use Rattle.reader.specs.Rows.{rowIn, isRecord, answered, endedBy, Reading, nextStep, reads, tooShort, readFor, bareRead, lentBy, readWith}
 use Rattle.reader.specs.declared.Reader.{Reader}
+use Rattle.reader.specs.declared.Bare.{Bare}
 use Rattle.reader.specs.declared.Step.{Step}
 use Rattle.reader.specs.declared.Said.the-variants as said
-use Rattle.reader.proofs.Carry.{words-own, fault-own}
-use Rattle.reader.proofs.Calls.{step-none, step-kept, step-settled, no-more}
+use Rattle.reader.proofs.Calls.{either, step-none, step-kept, step-settled, no-more}
 
 -- ## Where the calls begin
 
@@ -39,6 +40,15 @@ short r piece table l = rw (lt-ltb _ _ l)
 pub long : (r : Reader) (piece table : List ℕ) → 9 ≤ length table → readFor r piece table ≡ reads (length table / 9) r piece 0 0 table
 unfolding readFor
 long r piece table l = rw (le-ltb _ _ l)
+
+module _ (b : Bare) (carry piece table : List ℕ) where
+  pub too-few : length carry < 200 → readWith b carry piece table ≡ record { answer = bareRead (tooShort (lend b carry)); carry = carry; table = table }
+  unfolding readWith
+  too-few l = rw (lt-ltb _ _ l)
+
+  pub with-carry : 200 ≤ length carry → {x : Reading} → readFor (lend b carry) piece table ≡ x → readWith b carry piece table ≡ lentBy carry x
+  unfolding readWith
+  with-carry l e = rw (le-ltb _ _ l, e)
 
 -- ## The turns of the definition
 
@@ -60,46 +70,11 @@ unfolding reads
 on-by zero r piece taken count table h s e t = absurd (not-suc-le-zero h)
 on-by (suc left) r piece taken count table h s e t = rw (e, t, sub-one)
 
--- ## The reader of a turn
-
--- it is the one that was given, or has nothing in its carry
-abbrev Stands : Reader → Place → Reader → Type 0
-Stands self p r = (r ≡ self) ⊎ (r ≡ emptied (self .tag) p)
-
-stands : (self : Reader) (count : ℕ) (p : Place) → Stands self p (standing self count p)
-stands self count p = go (eqb count 0)
-  where
-    go : (t : Bool) → Stands self p (pick t self (emptied (self .tag) p))
-    go true = inl refl
-    go false = inr refl
-
-behind : (self : Reader) (count : ℕ) (p : Place) → standing self (count + 1) p ≡ emptied (self .tag) p
-behind self count p = let z : count + 1 ≡ 0 → ⊥ = λ e. omega arith in rw (ne-eqb _ _ z)
-
-module _ (self r : Reader) (p : Place) where
-  tag-same : Stands self p r → r .tag ≡ self .tag
-  tag-same (inl s) = ap (λ (x : Reader). x .tag) s
-  tag-same (inr s) = ap (λ (x : Reader). x .tag) s
-
-  -- what is judged by its own bytes alone is the same with the reader's own carry
-  module _ {A : Type 0} (f : List ℕ → A) (own : (bs z : List ℕ) → length bs ≡ sizeOf p → f (bs ++ z) ≡ f bs)
-      (have : ℕ) (h : r .have ≡ have) (rest : List ℕ) (n : ℕ) (e : n ≡ sizeOf p - have) (l : n ≤ length rest) where
-    whole-same : Stands self p r → f (paste (r .carry) (r .have) rest n) ≡ f (paste (self .carry) have rest n)
-    whole-same (inl s) = rw (h, ap (λ (x : Reader). x .carry) s)
-    whole-same (inr s) =
-        let z : have ≡ 0 = sym h ∙ ap (λ (x : Reader). x .have) s in
-        let m : length (take n rest) ≡ sizeOf p = simp length-take (omega (arith, z)) in
-        rw (h, z, zero-add) (own (take n rest) (drop n (r .carry)) m ∙ sym (own (take n rest) (drop n (self .carry)) m))
-
 -- ## A call that finds no whole record hands out none
 
 silent-end : (v : Verdict) (r : Reader) (n : ℕ) → isRecord (stoppedBy v r n .answer .said) ≡ false
 silent-end (verdict.Refused refusal) r n = refl
-silent-end (verdict.Accepted summary) r n = go (eqb n 0) _ _ refl refl
-  where
-    go : (t : Bool) (x y : Step) → isRecord (x .answer .said) ≡ false → isRecord (y .answer .said) ≡ false → isRecord (pick t x y .answer .said) ≡ false
-    go true x y a b = a
-    go false x y a b = b
+silent-end (verdict.Accepted summary) r n = either (λ (s : Step). isRecord (s .answer .said) ≡ false) (eqb n 0) refl refl
 
 module _ (r : Reader) (rest : List ℕ) where
   -- nothing is due, or the piece is too short
@@ -132,89 +107,69 @@ whole-there size lacks left e = go (eqb size 0) refl e
     go true i k = let m : _≡_ {A = ℕ} 0 1 = ap (λ (t : Bool). pick t 0 1) k in absurd (omega arith)
     go false i k = let z : size ≡ 0 → ⊥ = eqb-false _ _ i in (omega arith, ltb-false _ _ k)
 
+-- what is found of the numbers of a turn holds of the reader's
+module _ (p : Place) (have left : ℕ) {size lacks : ℕ} {t : Bool} (s : size ≡ sizeOf p) (m : lacks ≡ size - have) (h : t ≡ haltBy size lacks left) where
+  lack : lacks ≡ sizeOf p - have
+  lack = rw s at m
+
+  pub halt-here : t ≡ true → haltBy (sizeOf p) (sizeOf p - have) left ≡ true
+  halt-here e = rw (← lack, ← s) (sym h ∙ e)
+
+  pub whole-here : t ≡ false → (lacks ≡ sizeOf p - have) × (0 < sizeOf p) × (lacks ≤ left)
+  whole-here e = let w = whole-there size lacks left (sym h ∙ e) in (lack, rw s at (w .0), w .1)
+
 -- ## The loop
 
 -- a state of the loop: room for the rows left, no byte taken that is not there, and what is still read is what all of it reads
-pub record Loop (piece table₀ : List ℕ) (all : Reading) (self : Reader) (table : List ℕ) (place : Place) (have taken count left : ℕ) : Type 0 where
+pub record Loop (carry piece tag table₀ : List ℕ) (all : Reading) (table : List ℕ) (place : Place) (have taken count left : ℕ) : Type 0 where
   pub room : 9 * count + 9 * left ≤ length table₀
   pub same : length table ≡ length table₀
   pub inside : taken ≤ length piece
-  pub placed : standing self count place .place ≡ place
-  pub has : standing self count place .have ≡ have
-  pub rest : reads left (standing self count place) piece taken count table ≡ all
+  pub rest : reads left (lend (record { have = have; tag = tag; place = place }) carry) piece taken count table ≡ all
 
-pub begins : (r : Reader) (piece table : List ℕ) → 9 ≤ length table → Loop piece table (readFor r piece table) r table (r .place) (r .have) 0 0 (length table / 9)
-begins r piece table l = record { room = omega arith; same = refl; inside = omega arith; placed = refl; has = refl; rest = sym (long r piece table l) }
+pub begins : (b : Bare) (carry piece table : List ℕ) → 9 ≤ length table
+    → Loop carry piece (b .tag) table (readFor (lend b carry) piece table) table (b .place) (b .have) 0 0 (length table / 9)
+begins b carry piece table l = record { room = omega arith; same = refl; inside = omega arith; rest = sym (long (lend b carry) piece table l) }
 
-module _ {piece table₀ : List ℕ} {all : Reading} {self : Reader} {table : List ℕ} {place : Place} {have taken count left : ℕ}
-    (l : Loop piece table₀ all self table place have taken count left) where
-  abbrev here : Reader
-  here = standing self count place
+module _ {carry piece tag table₀ : List ℕ} {all : Reading} {table : List ℕ} {place : Place} {have taken count left : ℕ}
+    (l : Loop carry piece tag table₀ all table place have taken count left) where
+  abbrev pub here : Reader
+  here = lend (record { have = have; tag = tag; place = place }) carry
 
   abbrev pub failed : ℕ → ℕ → Step
-  failed number lacks = settledBy (here .tag) (refused number place) noRecord (said.Refused (refusalAt number place)) lacks
+  failed number lacks = settledBy tag (refused number place) noRecord (said.Refused (refusalAt number place)) lacks
 
   pub full : left ≤ 0 → all ≡ record { answer = answered here taken count said.Record; table = table }
   full h = sym (l .rest) ∙ full-by left here piece taken count table h
 
-  lacks-here : (lacks : ℕ) → lacks ≡ sizeOf place - have → lacking here ≡ lacks
-  lacks-here lacks e = rw (l .placed, l .has) (sym e)
-
-  -- what the loop finds of its own numbers holds of the reader's
-  module _ {size lacks : ℕ} {t : Bool} (s : size ≡ sizeOf place) (m : lacks ≡ size - have) (h : t ≡ haltBy size lacks (length piece - taken)) where
-    lack : lacks ≡ sizeOf place - have
-    lack = rw s at m
-
-    pub halt-here : t ≡ true → haltBy (sizeOf (here .place)) (lacking here) (length piece - taken) ≡ true
-    halt-here e = rw (lacks-here lacks lack, l .placed, ← s) (sym h ∙ e)
-
-    pub whole-here : t ≡ false → (lacks ≡ sizeOf place - have) × (0 < sizeOf place) × (lacks ≤ length piece - taken)
-    whole-here e = let w = whole-there size lacks (length piece - taken) (sym h ∙ e) in (lack, rw s at (w .0), w .1)
-
   pub within : taken + stepOf here (drop taken piece) .answer .taken ≤ length piece
   within = omega (arith, l .inside, simp length-drop at (no-more here (drop taken piece)))
 
-  pub halted : 0 < left → haltBy (sizeOf (here .place)) (lacking here) (length piece - taken) ≡ true
+  pub halted : 0 < left → haltBy (sizeOf place) (sizeOf place - have) (length piece - taken) ≡ true
       → all ≡ record { answer = endedBy (stepOf here (drop taken piece)) taken count; table = table }
   halted h e = sym (l .rest) ∙ over-by left here piece taken count table h (stepOf here (drop taken piece)) refl (halt-silent here (drop taken piece) (rw length-drop e))
 
   module _ {lacks : ℕ} (there : (lacks ≡ sizeOf place - have) × (0 < sizeOf place) × (lacks ≤ length piece - taken))
-      {w : Words} (u : w ≡ wordsIn place (paste (self .carry) have (drop taken piece) lacks))
-      {number : ℕ} (v : number ≡ faultIn (self .tag) place (paste (self .carry) have (drop taken piece) lacks)) where
-    k : lacks ≤ length (drop taken piece)
-    k = simp length-drop (omega (arith, there .2))
-
-    words-here : w ≡ wordsIn (here .place) (paste (here .carry) (here .have) (drop taken piece) lacks)
-    words-here =
-        u ∙ sym (whole-same self here place (wordsIn place) (λ bs z q. words-own place bs z (there .1) q) have (l .has) (drop taken piece) lacks (there .0) k (stands self count place))
-        ∙ ap (λ (p : Place). wordsIn p (paste (here .carry) (here .have) (drop taken piece) lacks)) (sym (l .placed))
-
-    fault-here : number ≡ faultIn (here .tag) (here .place) (paste (here .carry) (here .have) (drop taken piece) lacks)
-    fault-here =
-        let s = stands self count place in
-        v ∙ sym (whole-same self here place (faultIn (self .tag) place) (λ bs z q. fault-own place bs z (there .1) q (self .tag)) have (l .has) (drop taken piece) lacks (there .0) k s)
-        ∙ ap₂ (λ (t : List ℕ) (p : Place). faultIn t p (paste (here .carry) (here .have) (drop taken piece) lacks)) (sym (tag-same self here place s)) (sym (l .placed))
-
+      {w : Words} (u : w ≡ wordsIn place (paste (carryIn carry have) have (drop taken piece) lacks))
+      {number : ℕ} (v : number ≡ faultIn tag place (paste (carryIn carry have) have (drop taken piece) lacks)) where
     step-here : stepOf here (drop taken piece) ≡ settled here w number lacks
-    step-here = step-settled here (drop taken piece) (rw (l .placed) (there .1)) (sym (lacks-here lacks (there .0))) k words-here fault-here
+    step-here = step-settled here (drop taken piece) (there .1) (there .0) (simp length-drop (omega (arith, there .2))) u v
 
     pub refuses : 0 < left → (number ≡ 0 → ⊥) → all ≡ record { answer = endedBy (failed number lacks) taken count; table = table }
     refuses h n =
-        let f : settled here w number lacks ≡ failed number lacks = rw (l .placed, ne-eqb number 0 n) in
+        let f : settled here w number lacks ≡ failed number lacks = rw (ne-eqb number 0 n) in
         sym (l .rest) ∙ over-by left here piece taken count table h (failed number lacks) (step-here ∙ f) refl
 
     pub on : 0 < left → number ≡ 0 → {next : Place} → next ≡ held (nextOf place w) → {table' : List ℕ} → table' ≡ puts table (9 * count) (rowIn (recordOf place w))
-        → Loop piece table₀ all self table' next 0 (taken + lacks) (count + 1) (left - 1)
+        → Loop carry piece tag table₀ all table' next 0 (taken + lacks) (count + 1) (left - 1)
     on h z {next} n {table'} q =
-        let f : settled here w number lacks ≡ passed = rw (tag-same self here place (stands self count place), l .placed, eq-eqb number 0 z) in
+        let f : settled here w number lacks ≡ passed = rw (eq-eqb number 0 z) in
         record {
           room = omega (arith, l .room);
           same = rw (q, length-puts table (9 * count) (rowIn (recordOf place w))) (l .same);
           inside = omega (arith, l .inside, there .2);
-          placed = rw (behind self count next);
-          has = rw (behind self count next);
-          rest = rw (behind self count next, q, n) (sym (on-by left here piece taken count table h passed (step-here ∙ f) refl) ∙ l .rest);
+          rest = rw (q, n) (sym (on-by left here piece taken count table h passed (step-here ∙ f) refl) ∙ l .rest);
         }
       where
         passed : Step
-        passed = settledBy (self .tag) (held (nextOf place w)) (recordOf place w) said.Record lacks
+        passed = settledBy tag (held (nextOf place w)) (recordOf place w) said.Record lacks

@@ -19,6 +19,7 @@ use Rattle.rules.specs.declared.Verdict.the-variants as verdict
 use Rattle.layout.specs.Scan.{format, begin, scan, foundIn}
 use Rattle.layout.specs.Reach.{Reached, totalsWith}
 use Rattle.reader.specs.Stream.{emptied, tagIn, fresh, noRecord, silent, stepOf, verdictOf}
+use Rattle.reader.specs.Beside.{lend, bareOf, keptIn}
 use Rattle.reader.specs.Rows.{rowIn, Reading, readFor}
 use Rattle.reader.specs.declared.Reader.{Reader}
 use Rattle.reader.specs.declared.Said.{Said}
@@ -175,3 +176,6 @@ pub record ReaderClaim : Type 0 where
       → ShowsClaim (readFor r piece table) 0 table (offers (length table / 9) r piece)
   -- and the reader after a read is one that calls give
   pub reads : (r : Reader) → Begun r → (piece : List ℕ) → Bytes piece → (table : List ℕ) → Begun (readFor r piece table .answer .reader)
+  -- what a begun reader leaves in the bytes lent is all that it needs to go on: it carries at most 200 bytes, and with them is the same again
+  pub few : (r : Reader) → Begun r → r .have ≤ 200
+  pub lent : (r : Reader) → Begun r → (carry : List ℕ) → 200 ≤ length carry → lend (bareOf r) (keptIn carry r) ≡ r

@@ -1,17 +1,18 @@
 -- A WHOLE PIECE AT ONCE: calls of the reader, one after the other, each with what the call before left of the piece, until it is used up or refused or
--- the table is full. The records found go to the rows of a lent table, from its start.
+-- the table is full. The records found go to the rows of a lent table, from its start; the carry is lent beside the reader.
 use Prim.Native.Nat.{ℕ, zero, suc, _+_, _*_, _/_}
 use mathlib.Core.Bool.{Bool, true, false}
 use mathlib.Core.List.{List, [], _∷_}
-use lib.Dec.{eqb, ltb}
+use lib.Dec.{ltb}
 use lib.ListN.{length, drop, getD}
 use Rattle.words.specs.Checks.{pick}
 use Rattle.words.specs.Le.{puts, long}
 use Rattle.rules.specs.Offers.{rowOf}
 use Rattle.rules.specs.Verdicts.{refusalAt}
-use Rattle.rules.specs.declared.Place.{Place}
 use Rattle.rules.specs.declared.Record.{Record}
-use Rattle.reader.specs.Stream.{emptied, stepOf}
+use Rattle.reader.specs.Stream.{stepOf}
+use Rattle.reader.specs.Beside.{lend, bareOf, keptIn, tooFew}
+use Rattle.reader.specs.declared.Bare.{Bare}
 use Rattle.reader.specs.declared.Reader.{Reader}
 use Rattle.reader.specs.declared.Step.{Step}
 use Rattle.reader.specs.declared.Said.{Said}
@@ -38,16 +39,22 @@ isRecord said.Record = true
 isRecord (said.Refused refusal) = false
 
 -- what is answered after some calls: the reader, the bytes taken, the rows filled, and what was said last
-abbrev pub answered : Reader → ℕ → ℕ → Said → Read
+pub record Answered : Type 0 where
+  pub reader : Reader
+  pub taken : ℕ
+  pub count : ℕ
+  pub said : Said
+
+abbrev pub answered : Reader → ℕ → ℕ → Said → Answered
 answered r taken count s = record { reader = r; taken = taken; count = count; said = s }
 
 -- after a call that handed out no record
-abbrev pub endedBy : Step → ℕ → ℕ → Read
+abbrev pub endedBy : Step → ℕ → ℕ → Answered
 endedBy s taken count = answered (s .reader) (taken + s .answer .taken) count (s .answer .said)
 
 -- the answer, and the table after the call
 pub record Reading : Type 0 where
-  pub answer : Read
+  pub answer : Answered
   pub table : List ℕ
 
 -- the next call, after so many bytes were taken
@@ -64,18 +71,28 @@ reads (suc left) r piece taken count table =
     (record { answer = endedBy s taken count; table = table })
 
 -- a table that holds no row is refused with 15 where the reader stands
-abbrev pub tooShort : Reader → Read
+abbrev pub tooShort : Reader → Answered
 tooShort r = answered r 0 0 (said.Refused (refusalAt 15 (r .place)))
 
 unfoldable pub readFor : Reader → List ℕ → List ℕ → Reading
 readFor r piece table = pick (ltb (length table) 9) (record { answer = tooShort r; table = table }) (reads (length table / 9) r piece 0 0 table)
 
--- ## How the code goes about it
+-- ## With a lent carry
 
--- the reader after so many records: the one that was given, or one with nothing in its carry
-abbrev pub standing : Reader → ℕ → Place → Reader
-standing r count p = pick (eqb count 0) r (emptied (r .tag) p)
+-- the answer without the carry
+abbrev pub bareRead : Answered → Read
+bareRead x = record { reader = bareOf (x .reader); taken = x .taken; count = x .count; said = x .said }
 
--- whether nothing is due, or fewer bytes are left than the record due lacks
-abbrev pub haltBy : ℕ → ℕ → ℕ → Bool
-haltBy size lacks left = pick (eqb size 0) true (ltb left lacks)
+-- the answer, and what is lent after the call
+pub record Lent : Type 0 where
+  pub answer : Read
+  pub carry : List ℕ
+  pub table : List ℕ
+
+abbrev pub lentBy : List ℕ → Reading → Lent
+lentBy carry x = record { answer = bareRead (x .answer); carry = keptIn carry (x .answer .reader); table = x .table }
+
+unfoldable pub readWith : Bare → List ℕ → List ℕ → List ℕ → Lent
+readWith b carry piece table =
+    pick (tooFew carry) (record { answer = bareRead (tooShort (lend b carry)); carry = carry; table = table })
+    (lentBy carry (readFor (lend b carry) piece table))

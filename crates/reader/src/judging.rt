@@ -1,19 +1,17 @@
 // The judge of a whole shard in a lent buffer: record by record, straight from the buffer, with no carry.
-use crate::steps::Heard;
+use crate::steps::hear;
 use crate::steps::start_for;
 use rules::Place;
 use rules::Refusal;
 use rules::Verdict;
-use words::Footer;
 use words::Words;
 use words::hash::hash_at;
 ghost use mathlib.Core.Path.{_≡_};
 ghost use mathlib.Core.Bool.{true};
-ghost use Prim.Native.Nat.{_+_, _≤_, _<_};
+ghost use Prim.Native.Nat.{_≤_};
 ghost use lib.Dec.{eqb};
-ghost use lib.ListN.{length, take, drop};
+ghost use lib.ListN.{length};
 ghost use Rattle.words.specs.Checks.{pick};
-ghost use Rattle.rules.specs.Rules.{sizeOf, wordsIn, faultIn};
 ghost use Rattle.rules.specs.Verdicts.{refused};
 ghost use Rattle.layout.specs.Scan.{foundIn};
 ghost use Rattle.layout.specs.Reach.{lastPlace};
@@ -68,30 +66,9 @@ fn turn_at(four: [u64; 4], shard: &[u8], place: Place) -> Turn
     if left < size {
         return Turn { place, over: true };
     }
-    let heard = heard_at(four, place, shard, at);
+    let heard = hear(shard, 0, four, place, &shard[at..], size);
     let w = heard.words;
     turn_after(place, heard.number, w)
-}
-
-// What the bytes of the buffer say of the record due.
-fn heard_at(four: [u64; 4], place: Place, shard: &[u8], at: usize) -> Heard
-    requires { ⌜ (at + sizeOf place ≤ length (now shard)) × (0 < sizeOf place) ⌝ }
-    ensures { λ r. ⌜ (r .words ≡ wordsIn place (take (sizeOf place) (drop at (now (shard .entry))))) × (r .number ≡ faultIn four place (take (sizeOf place) (drop at (now (shard .entry))))) ⌝ }
-{
-    let due = place.due;
-    if due.size() == Footer::SIZE {
-        let f = Footer::read(shard, at);
-        let w = f.words;
-        return Heard {
-            words: w,
-            number: place.footer_fault(f),
-        };
-    }
-    let w = Words::read(shard, at);
-    Heard {
-        words: w,
-        number: place.fault(four, w),
-    }
 }
 
 // Nothing is due: a byte after the end is refused.

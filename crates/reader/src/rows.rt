@@ -1,9 +1,10 @@
-// A whole piece at once: each record found fills a row of a lent table. A record is read where it stands, and a reader is put together
-// only once, at the end, so that no carry is copied on the way.
+// A whole piece at once: each record found fills a row of a lent table. A record is read where it stands, and the carry is looked at only
+// where the record began in an earlier piece.
+use crate::Bare;
+use crate::Call;
 use crate::Read;
-use crate::Reader;
 use crate::Said;
-use crate::Step;
+use crate::beside::halts;
 use crate::steps::Heard;
 use crate::steps::after_fault;
 use crate::steps::hear;
@@ -11,16 +12,18 @@ use crate::steps::missing;
 use rules::Place;
 use rules::Record;
 use rules::Refusal;
+use words::Footer;
 use words::number::joined;
 ghost use mathlib.Core.Path.{_≡_};
-ghost use mathlib.Core.Bool.{true};
 ghost use Prim.Native.Nat.{_+_, _-_, _≤_, _<_};
 ghost use lib.ListN.{length, drop};
 ghost use lib.Seq.{paste};
 ghost use Rattle.words.specs.Le.{puts};
 ghost use Rattle.rules.specs.Rules.{sizeOf, wordsIn, faultIn};
-ghost use Rattle.reader.specs.Stream.{lacking, stepOf};
-ghost use Rattle.reader.specs.Rows.{rowIn, standing, haltBy, answered, endedBy, tooShort, readFor};
+ghost use Rattle.rules.specs.Verdicts.{refusalAt};
+ghost use Rattle.reader.specs.Beside.{upTo, carryIn};
+ghost use Rattle.reader.specs.Rows.{rowIn, readWith};
+ghost use Rattle.reader.specs.declared.Said.the-variants as said;
 
 // The numbers of a row.
 const ROW: usize = 9;
@@ -57,16 +60,9 @@ fn put_row(table: &mut [u64], at: usize, r: Record)
     table[p8] = cd;
 }
 
-// Whether nothing is due, or less is left of the piece than the record due lacks.
-fn halts(size: usize, lacks: usize, left: usize) -> bool
-    ensures { λ r. ⌜ r ≡ haltBy size lacks left ⌝ }
-{
-    if size == 0 { true } else { left < lacks }
-}
-
 // What the bytes say of the record due, from a position of the piece on.
 fn hear_at(
-    carry: [u8; 200],
+    carry: &[u8],
     have: usize,
     tag: [u64; 4],
     place: Place,
@@ -74,40 +70,14 @@ fn hear_at(
     at: usize,
     lacks: usize,
 ) -> Heard
-    requires { ⌜ (at ≤ length (now piece)) × (lacks ≡ sizeOf place - have) × (lacks ≤ length (now piece) - at) × (0 < sizeOf place) ⌝ }
-    ensures { λ r. ⌜ (r .words ≡ wordsIn place (paste carry have (drop at (now (piece .entry))) lacks)) × (r .number ≡ faultIn tag place (paste carry have (drop at (now (piece .entry))) lacks)) ⌝ }
+    requires { ⌜ (upTo have ≤ length (now carry)) × (at ≤ length (now piece)) × (lacks ≡ sizeOf place - have) × (lacks ≤ length (now piece) - at) × (0 < sizeOf place) ⌝ }
+    ensures { λ r. ⌜ (r .words ≡ wordsIn place (paste (carryIn (now (carry .entry)) have) have (drop at (now (piece .entry))) lacks)) × (r .number ≡ faultIn tag place (paste (carryIn (now (carry .entry)) have) have (drop at (now (piece .entry))) lacks)) ⌝ }
 {
     hear(carry, have, tag, place, &piece[at..], lacks)
 }
 
-// The reader after so many records of a piece: the one that was given, or one with nothing in its carry.
-fn standing_at(reader: Reader, count: usize, place: Place) -> Reader
-    ensures { λ r. ⌜ r ≡ standing reader count place ⌝ }
-{
-    let tag = reader.tag;
-    if count == 0 {
-        reader
-    } else {
-        Reader::empty(tag, place)
-    }
-}
-
-// A call that finds no whole record from a position of the piece on.
-fn halt_at(r: Reader, piece: &[u8], at: usize) -> Step
-    requires { ⌜ (at ≤ length (now piece)) × (haltBy (sizeOf (r .place)) (lacking r) (length (now piece) - at) ≡ true) ⌝ }
-    ensures { λ s. ⌜ s ≡ stepOf r (drop at (now (piece .entry))) ⌝ }
-{
-    let place = r.place;
-    let due = place.due;
-    if due.size() == 0 {
-        r.stop(piece.len() - at)
-    } else {
-        r.keep(&piece[at..])
-    }
-}
-
-fn answer(r: Reader, taken: usize, count: usize, said: Said) -> Read
-    ensures { λ x. ⌜ x ≡ answered r taken count said ⌝ }
+fn answer(r: Bare, taken: usize, count: usize, said: Said) -> Read
+    ensures { λ x. ⌜ x ≡ record { reader = r; taken = taken; count = count; said = said } ⌝ }
 {
     Read {
         reader: r,
@@ -118,9 +88,9 @@ fn answer(r: Reader, taken: usize, count: usize, said: Said) -> Read
 }
 
 // What is answered after a last call.
-fn ended(s: Step, taken: usize, count: usize) -> Read
+fn ended(s: Call, taken: usize, count: usize) -> Read
     requires { ⌜ taken + s .answer .taken < 18446744073709551616 ⌝ }
-    ensures { λ r. ⌜ r ≡ endedBy s taken count ⌝ }
+    ensures { λ r. ⌜ r ≡ record { reader = s .reader; taken = taken + s .answer .taken; count = count; said = s .answer .said } ⌝ }
 {
     let reader = s.reader;
     let last = s.answer;
@@ -128,22 +98,24 @@ fn ended(s: Step, taken: usize, count: usize) -> Read
     answer(reader, taken + last.taken, count, said)
 }
 
-fn too_short(reader: Reader) -> Read
-    ensures { λ r. ⌜ r ≡ tooShort reader ⌝ }
+fn too_short(reader: Bare) -> Read
+    ensures { λ r. ⌜ r ≡ record { reader = reader; taken = 0; count = 0; said = said.Refused (refusalAt 15 (reader .place)) } ⌝ }
 {
     let place = reader.place;
     answer(reader, 0, 0, Said::Refused(place.refusal(Refusal::BUFFER)))
 }
 
-impl Reader {
+impl Bare {
     // Calls one after the other, until the piece is used up or refused or the table is full.
-    pub fn read(self, piece: &[u8], table: &mut [u64]) -> Read
-        ensures { λ r. ⌜ (r ≡ readFor self (now (piece .entry)) (now (table .entry)) .answer) × (now (table .exit) ≡ readFor self (now (piece .entry)) (now (table .entry)) .table) ⌝ }
+    pub fn read(self, carry: &mut [u8], piece: &[u8], table: &mut [u64]) -> Read
+        ensures { λ r. ⌜ (r ≡ readWith self (now (carry .entry)) (now (piece .entry)) (now (table .entry)) .answer) × (now (carry .exit) ≡ readWith self (now (carry .entry)) (now (piece .entry)) (now (table .entry)) .carry) × (now (table .exit) ≡ readWith self (now (carry .entry)) (now (piece .entry)) (now (table .entry)) .table) ⌝ }
     {
+        if carry.len() < Footer::SIZE {
+            return too_short(self);
+        }
         if table.len() < ROW {
             return too_short(self);
         }
-        let carry = self.carry;
         let tag = self.tag;
         let start = self.place;
         let mut place = start;
@@ -156,15 +128,14 @@ impl Reader {
             let size = due.size();
             let lacks = missing(size, have);
             if halts(size, lacks, piece.len() - taken) {
-                let r = standing_at(self, count, place);
-                return ended(halt_at(r, piece, taken), taken, count);
+                let b = Bare { have, tag, place };
+                return ended(b.halt(carry, &piece[taken..]), taken, count);
             }
             let heard = hear_at(carry, have, tag, place, piece, taken, lacks);
             let w = heard.words;
             if heard.number != 0 {
-                let r = standing_at(self, count, place);
                 let sequel = after_fault(place, heard.number);
-                return ended(r.settle(sequel, lacks), taken, count);
+                return ended(self.settle(sequel, lacks), taken, count);
             }
             put_row(table, ROW * count, place.record(w));
             let next = place.next(w);
@@ -174,6 +145,6 @@ impl Reader {
             count += 1;
             left -= 1;
         }
-        answer(standing_at(self, count, place), taken, count, Said::Record)
+        answer(Bare { have, tag, place }, taken, count, Said::Record)
     }
 }

@@ -21,6 +21,7 @@ ghost use Rattle.rules.specs.Rules.{sizeOf, wordsIn, faultIn};
 ghost use Rattle.rules.specs.Verdicts.{refused, refusalAt};
 ghost use Rattle.reader.specs.declared.Said.the-variants as said;
 ghost use Rattle.reader.specs.Stream.{startFor, emptied, fresh, noRecord, silent, placeAfter, recordAfter, saidAfter, settledBy, kept, stopped, stepOf, verdictOf};
+ghost use Rattle.reader.specs.Beside.{upTo, carryIn};
 
 // What the bytes of a whole record say: its numbers, and the number of the refusal, 0 if it is good.
 pub struct Heard {
@@ -35,7 +36,7 @@ pub struct Sequel {
     pub said: Said,
 }
 
-const NO_RECORD: Record = Record {
+pub const NO_RECORD: Record = Record {
     at: Position(0),
     offset: Position(0),
     words: Words {
@@ -61,7 +62,7 @@ pub fn start_for(tag: &[u8]) -> Place
 }
 
 // A good record is handed out, and reading goes on behind it.
-fn after(p: Place, number: u32, w: Words) -> Sequel
+pub fn after(p: Place, number: u32, w: Words) -> Sequel
     ensures { λ r. ⌜ (r .place ≡ placeAfter p number w) × (r .found ≡ recordAfter p number w) × (r .said ≡ saidAfter p number) ⌝ }
 {
     if number == 0 {
@@ -107,7 +108,7 @@ pub fn missing(size: usize, have: usize) -> usize
 }
 
 // A call that takes nothing and hands out nothing.
-fn silence(said: Said) -> Answer
+pub fn silence(said: Said) -> Answer
     ensures { λ r. ⌜ r ≡ silent 0 said ⌝ }
 {
     Answer {
@@ -166,7 +167,7 @@ impl Reader {
         if piece.len() < lacks {
             return self.keep(piece);
         }
-        let heard = hear(carry, self.have, tag, place, piece, lacks);
+        let heard = hear_held(carry, self.have, tag, place, piece, lacks);
         self.settle(after(place, heard.number, heard.words), lacks)
     }
 
@@ -242,21 +243,40 @@ impl Reader {
     }
 }
 
+// The most that a carry has, however many bytes are said to be in it.
+pub fn up_to(have: usize) -> usize
+    ensures { λ r. ⌜ r ≡ upTo have ⌝ }
+{
+    if have <= Footer::SIZE {
+        have
+    } else {
+        Footer::SIZE
+    }
+}
+
+// The bytes that a lent carry has, then zeros.
+fn carried(carry: &[u8], have: usize) -> [u8; 200]
+    requires { ⌜ upTo have ≤ length (now carry) ⌝ }
+    ensures { λ r. ⌜ r ≡ carryIn (now (carry .entry)) have ⌝ }
+{
+    filled([0; 200], 0, carry, up_to(have))
+}
+
 // What the bytes in the carry and the first of the piece say of the record due.
 pub fn hear(
-    carry: [u8; 200],
+    carry: &[u8],
     have: usize,
     tag: [u64; 4],
     place: Place,
     piece: &[u8],
     lacks: usize,
 ) -> Heard
-    requires { ⌜ (lacks ≡ sizeOf place - have) × (lacks ≤ length (now piece)) × (0 < sizeOf place) ⌝ }
-    ensures { λ r. ⌜ (r .words ≡ wordsIn place (paste carry have (now (piece .entry)) lacks)) × (r .number ≡ faultIn tag place (paste carry have (now (piece .entry)) lacks)) ⌝ }
+    requires { ⌜ (upTo have ≤ length (now carry)) × (lacks ≡ sizeOf place - have) × (lacks ≤ length (now piece)) × (0 < sizeOf place) ⌝ }
+    ensures { λ r. ⌜ (r .words ≡ wordsIn place (paste (carryIn (now (carry .entry)) have) have (now (piece .entry)) lacks)) × (r .number ≡ faultIn tag place (paste (carryIn (now (carry .entry)) have) have (now (piece .entry)) lacks)) ⌝ }
 {
     let due = place.due;
     if due.size() == Footer::SIZE {
-        let c = filled(carry, have, piece, lacks);
+        let c = filled(carried(carry, have), have, piece, lacks);
         let f = Footer::read(&c, 0);
         let w = f.words;
         return Heard {
@@ -271,15 +291,30 @@ pub fn hear(
     }
 }
 
+// The same of a carry that a reader holds: what stands behind the bytes that it has makes no difference.
+fn hear_held(
+    carry: [u8; 200],
+    have: usize,
+    tag: [u64; 4],
+    place: Place,
+    piece: &[u8],
+    lacks: usize,
+) -> Heard
+    requires { ⌜ (lacks ≡ sizeOf place - have) × (lacks ≤ length (now piece)) × (0 < sizeOf place) ⌝ }
+    ensures { λ r. ⌜ (r .words ≡ wordsIn place (paste carry have (now (piece .entry)) lacks)) × (r .number ≡ faultIn tag place (paste carry have (now (piece .entry)) lacks)) ⌝ }
+{
+    hear(&carry, have, tag, place, piece, lacks)
+}
+
 // The numbers of a record of 48 bytes, straight from the piece where nothing is carried.
-fn words_of(carry: [u8; 200], have: usize, piece: &[u8], lacks: usize) -> Words
-    requires { ⌜ (lacks ≡ 48 - have) × (lacks ≤ length (now piece)) ⌝ }
-    ensures { λ r. ⌜ r ≡ wordsAt (paste carry have (now (piece .entry)) lacks) 0 ⌝ }
+fn words_of(carry: &[u8], have: usize, piece: &[u8], lacks: usize) -> Words
+    requires { ⌜ (upTo have ≤ length (now carry)) × (lacks ≡ 48 - have) × (lacks ≤ length (now piece)) ⌝ }
+    ensures { λ r. ⌜ r ≡ wordsAt (paste (carryIn (now (carry .entry)) have) have (now (piece .entry)) lacks) 0 ⌝ }
 {
     if have == 0 {
         Words::read(piece, 0)
     } else {
-        let c = filled(carry, have, piece, lacks);
+        let c = filled(carried(carry, have), have, piece, lacks);
         Words::read(&c, 0)
     }
 }

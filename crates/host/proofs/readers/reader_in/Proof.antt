@@ -7,4 +7,4 @@ returns : tie.Need-returns
 returns c = rw (c .place-in .ensures)
 
 pub reader-in-spec : {M : Type 1} → statement M
-reader-in-spec = tie.close (tie.spec (λ c. λ κs. search needs) returns)
+reader-in-spec = tie.close (tie.spec (λ c. search needs) (λ c. λ κs. search needs) returns)

@@ -33,7 +33,7 @@ returns-3 c =
     let e = rw (c5 .size .ensures) at (c4 .missing .ensures) in
     c .settle .ensures
     ∙ rw (c1 .after .ensures .0, c1 .after .ensures .1, c1 .after .ensures .2)
-    (sym (step-settled (a .self) (a .piece .now) (omega (arith, c5 .size .ensures)) e (c3 .if2 .left) (c2 .hear .ensures .0) (c2 .hear .ensures .1)))
+    (sym (step-settled (a .self) (a .piece .now) (omega (arith, c5 .size .ensures)) e (c3 .if2 .left) (c2 .hear-held .ensures .0) (c2 .hear-held .ensures .1)))
 
 pub step-spec : {M : Type 1} → statement M
 step-spec =

@@ -1,6 +1,12 @@
 -- `turn_at` meets its contract: what is due and the bytes left decide, in the order of the definition. Assumes nothing.
-use mathlib.Core.Path.{refl, sym, _∙_}
+use mathlib.Core.Path.{_≡_, refl, sym, _∙_}
+use Prim.Native.Nat.{_+_, _-_, _≤_, _<_}
 use native.Mathlib.Omega.{arith}
+use native.Mathlib.Nat.{sub-zero}
+use lib.ListN.{length, take, drop, replicate, length-drop}
+use lib.Seq.{take-all, length-take-le}
+use Rattle.rules.specs.Rules.{sizeOf}
+use Rattle.reader.proofs.Carry.{words-own, fault-own}
 use Rattle.reader.proofs.Whole.{turn-end, turn-short, turn-full}
 use borrow.Author.Needs.{needs}
 use Rattle.reader.proofs.judging.turn_at.Statement.{statement}
@@ -21,20 +27,34 @@ returns-2 c =
     let a = c2 .args in
     rw (turn-short (a .four) (a .shard .now) (a .place) (rw (c1 .size .ensures) at (c .if2 .taken))) (refl, refl)
 
-heard-at-requires : tie.Need-heard-at-requires
-heard-at-requires c κs =
-    let c1 = c .before .before in
-    let c2 = c1 .before .before .before in
-    (omega (arith, c2 .pre, c1 .size .ensures), omega (arith, c1 .size .ensures))
+hear-requires : tie.Need-hear-requires
+hear-requires c κs =
+    let c1 = c .before in
+    let c3 = c1 .before .before in
+    let c6 = c3 .before .before .before in
+    let a = c6 .args in
+    let at = a .place .at .0 in
+    let l = drop at (a .shard .now) in
+    let h : length l ≤ length (a .shard .now) - at = simp length-drop (omega arith) in
+    rw (take-all (length (a .shard .now) - at) l h, length-drop) (omega arith, rw sub-zero (c3 .size .ensures), c1 .if2 .left, omega (arith, c3 .size .ensures))
 
 returns-3 : tie.Need-returns-3
 returns-3 c =
-    let c1 = c .before .before in
-    let c2 = c1 .before in
-    let c3 = c2 .before .before in
-    let c4 = c3 .before .before .before in
-    let a = c4 .args in
-    rw (c .turn-after .ensures .0, c .turn-after .ensures .1, c1 .heard-at .ensures .0, c1 .heard-at .ensures .1, turn-full (a .four) (a .shard .now) (a .place) (omega (arith, c3 .size .ensures)) (rw (c3 .size .ensures) at (c2 .if2 .left))) (refl, refl)
+    let c2 = c .before .before in
+    let c4 = c2 .before .before in
+    let c6 = c4 .before .before in
+    let c9 = c6 .before .before .before in
+    let a = c9 .args in
+    let p = a .place in
+    let at = p .at .0 in
+    let l = drop at (a .shard .now) in
+    let h : length l ≤ length (a .shard .now) - at = simp length-drop (omega arith) in
+    let k : 0 < sizeOf p = omega (arith, c6 .size .ensures) in
+    let e = rw (c6 .size .ensures) at (c4 .if2 .left) in
+    let q : length (take (sizeOf p) l) ≡ sizeOf p = length-take-le (sizeOf p) l (rw length-drop e) in
+    let w = words-own p (take (sizeOf p) l) (drop (0 + sizeOf p) (replicate 200 0)) k q in
+    let f = fault-own p (take (sizeOf p) l) (drop (0 + sizeOf p) (replicate 200 0)) k q (a .four) in
+    rw (c .turn-after .ensures .0, c .turn-after .ensures .1, c2 .hear .ensures .0, c2 .hear .ensures .1, take-all (length (a .shard .now) - at) l h, c6 .size .ensures, w, f, turn-full (a .four) (a .shard .now) p k e) (refl, refl)
 
 pub turn-at-spec : {M : Type 1} → statement M
 turn-at-spec =
@@ -45,6 +65,9 @@ turn-at-spec =
     (λ c. λ κs. search needs)
     returns
     returns-2
-    heard-at-requires
+    (λ c. search needs)
+    (λ c. search needs)
+    (λ c. search needs)
+    hear-requires
     (λ c. λ κs. search needs)
     returns-3)

@@ -10,15 +10,15 @@ use Rattle.reader.proofs.rows.hear_at.Tie as tie
 
 hear-requires : tie.Need-hear-requires
 hear-requires c κs =
-    let c1 = c .before .before in
+    let c1 = c .before .before .before in
     let a = c1 .args in
     let l = drop (a .at) (a .piece .now) in
     let h : length l ≤ length (a .piece .now) - a .at = simp length-drop (omega arith) in
-    rw (take-all (length (a .piece .now) - a .at) l h, length-drop) (c1 .pre .1, c1 .pre .2, c1 .pre .3)
+    rw (take-all (length (a .piece .now) - a .at) l h, length-drop) (c1 .pre .0, c1 .pre .2, c1 .pre .3, c1 .pre .4)
 
 returns : tie.Need-returns
 returns c =
-    let a = c .before .before .before .args in
+    let a = c .before .before .before .before .args in
     let l = drop (a .at) (a .piece .now) in
     let h : length l ≤ length (a .piece .now) - a .at = simp length-drop (omega arith) in
     rw (c .hear .ensures .0, c .hear .ensures .1, take-all (length (a .piece .now) - a .at) l h) (refl, refl)

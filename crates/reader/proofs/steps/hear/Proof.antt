@@ -13,14 +13,14 @@ returns c =
     let c2 = c1 .before .before in
     let c3 = c2 .before in
     let c4 = c3 .before in
-    rw (c .footer-fault .ensures, c1 .read .ensures, c2 .filled .ensures, eq-eqb _ _ (sym (c4 .size .ensures) ∙ c3 .if1 .taken)) (refl, refl)
+    rw (c .footer-fault .ensures, c1 .read .ensures, c2 .filled .ensures, c3 .carried .ensures, eq-eqb _ _ (sym (c4 .before .size .ensures) ∙ c4 .if1 .taken)) (refl, refl)
 
 words-of-requires : tie.Need-words-of-requires
 words-of-requires c κs =
     let c1 = c .before in
-    let c2 = c1 .before .before in
-    let e : sizeOf (c2 .args .place) ≡ 48 = size-48 (c2 .args .place .due) (c2 .pre .2) (λ e. c .if1 .left (c1 .size .ensures ∙ e)) in
-    (rw e at (c2 .pre .0), c2 .pre .1)
+    let c2 = c1 .before .before .before in
+    let e : sizeOf (c2 .args .place) ≡ 48 = size-48 (c2 .args .place .due) (c2 .pre .3) (λ e. c .if1 .left (c1 .size .ensures ∙ e)) in
+    (c2 .pre .0, rw e at (c2 .pre .1), c2 .pre .2)
 
 returns-2 : tie.Need-returns-2
 returns-2 c =
@@ -33,6 +33,7 @@ pub hear-spec : {M : Type 1} → statement M
 hear-spec =
     tie.close
     (tie.spec
+    (λ c. λ κs. search needs)
     (λ c. λ κs. search needs)
     (λ c. λ κs. search needs)
     (λ c. search needs)

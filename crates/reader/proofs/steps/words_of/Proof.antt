@@ -1,6 +1,7 @@
 -- `words_of` meets its contract: the 48 bytes are in the filled carry, or in the piece where nothing was carried. Assumes nothing.
 use mathlib.Core.Path.{_≡_}
 use native.Mathlib.Omega.{arith}
+use Rattle.reader.specs.Beside.{carryIn}
 use Rattle.reader.proofs.Carry.{words-pasted}
 use borrow.Author.Needs.{needs}
 use Rattle.reader.proofs.steps.words_of.Statement.{statement}
@@ -9,14 +10,23 @@ use Rattle.reader.proofs.steps.words_of.Tie as tie
 returns : tie.Need-returns
 returns c =
     let c1 = c .before in
-    let c2 = c1 .before .before in
-    let e : c2 .args .lacks ≡ 48 = omega arith in
-    rw (c .read .ensures, c1 .if1 .taken, e) (words-pasted (c2 .args .carry) (c2 .args .piece .now) (omega arith))
+    let a = c1 .before .before .before .args in
+    let e : a .lacks ≡ 48 = omega arith in
+    rw (c .read .ensures, c1 .if1 .taken, e) (words-pasted (carryIn (a .carry .now) 0) (a .piece .now) (omega arith))
 
 returns-2 : tie.Need-returns-2
-returns-2 c = rw (c .read2 .ensures, c .before .before .filled .ensures)
+returns-2 c =
+    let c1 = c .before .before in
+    rw (c .read2 .ensures, c1 .filled .ensures, c1 .before .carried .ensures)
 
 pub words-of-spec : {M : Type 1} → statement M
 words-of-spec =
     tie.close
-    (tie.spec (λ c. λ κs. search needs) (λ c. λ κs. search needs) (λ c. search needs) (λ c. λ κs. search needs) returns returns-2)
+    (tie.spec
+    (λ c. λ κs. search needs)
+    (λ c. λ κs. search needs)
+    (λ c. λ κs. search needs)
+    (λ c. search needs)
+    (λ c. λ κs. search needs)
+    returns
+    returns-2)

@@ -1,7 +1,7 @@
 -- `halts` meets its contract: the size decides, then the length. Assumes nothing.
 use borrow.Author.Tests.{eq-eqb, ne-eqb}
-use Rattle.reader.proofs.rows.halts.Statement.{statement}
-use Rattle.reader.proofs.rows.halts.Tie as tie
+use Rattle.reader.proofs.beside.halts.Statement.{statement}
+use Rattle.reader.proofs.beside.halts.Tie as tie
 
 returns : tie.Need-returns
 returns c = rw (eq-eqb _ _ (c .if1 .taken))
