@@ -10,7 +10,7 @@ use Rattle.rules.specs.declared.Due.the-variants as due
 use Rattle.rules.specs.declared.Fields.{Fields}
 use Rattle.rules.specs.declared.Fields.the-variants as fields
 use Rattle.words.specs.Le.{low}
-use Rattle.reader.specs.declared.Bare.{Bare}
+use Rattle.beside.specs.declared.Bare.{Bare}
 use Rattle.writer.specs.declared.Writer.{Writer}
 use Rattle.host.specs.Boundary.{yes, mark, dueIn, dueOut, placeIn, placeOut, readerIn, readerOut, writerIn, writerOut, offerBy, offerIn}
 

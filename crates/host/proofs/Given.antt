@@ -10,12 +10,13 @@ use lib.ListN.{length}
 use borrow.Author.Tests.{ltb-false}
 use Rattle.words.specs.Checks.{pick}
 use Rattle.reader.specs.Stream.{fresh, stepOf}
-use Rattle.reader.specs.Beside.{lend, bareOf, keptIn, tooFew, shortOf, callOf, callFor, carryFor}
-use Rattle.reader.specs.Rows.{bareRead, tooShort, readFor, Lent, lentBy, readWith}
+use Rattle.beside.specs.Beside.{lend, bareOf, keptIn, tooFew, shortOf, callOf, callFor, carryFor}
+use Rattle.beside.specs.Rows.{bareRead, tooShort, readFor, Lent, lentBy, readWith}
 use Rattle.reader.specs.Readings.{Begun, begun, after}
 use Rattle.reader.specs.declared.Reader.{Reader}
-use Rattle.reader.specs.declared.Bare.{Bare}
+use Rattle.beside.specs.declared.Bare.{Bare}
 use Rattle.reader.proofs.Theorem.{reader}
+use Rattle.beside.proofs.Theorem.{beside}
 use Rattle.host.specs.Boundary.{readerIn, readerOut}
 use Rattle.host.specs.Claims.{Given, first, stepped, read}
 use Rattle.host.specs.declared.ReaderState.{ReaderState}
@@ -31,7 +32,7 @@ same b carry g = subst (λ (x : Bare). Begun (lend x carry)) (sym (reader-back b
 -- any other answer's reader, with what it leaves in the bytes lent
 again : (carry : List ℕ) → 200 ≤ length carry → (r : Reader) → Begun r → Begun (lend (readerIn (readerOut (bareOf r))) (keptIn carry r))
 again carry l r b =
-    let e = ap (λ (x : Bare). lend x (keptIn carry r)) (reader-back (bareOf r) (small r b)) ∙ reader .lent r b carry l in
+    let e = ap (λ (x : Bare). lend x (keptIn carry r)) (reader-back (bareOf r) (small r b)) ∙ beside .lent r b carry l in
     subst Begun (sym e) b
 
 lent-fresh : (tag carry : List ℕ) → fresh tag ≡ lend (bareOf (fresh tag)) carry
@@ -60,4 +61,4 @@ given x bytes (read {s} {carry} g piece y table) = go (given s carry g) (tooFew 
 
     go : Begun (lend b carry) → (t : Bool) → ltb (length carry) 200 ≡ t → Begun (lend (readerIn (readerOut (gives t .answer .reader))) (gives t .carry))
     go k true e = same b carry k
-    go k false e = again carry (ltb-false _ _ e) (readFor (lend b carry) piece table .answer .reader) (reader .reads (lend b carry) k piece y table)
+    go k false e = again carry (ltb-false _ _ e) (readFor (lend b carry) piece table .answer .reader) (beside .reads (lend b carry) k piece y table)

@@ -18,9 +18,9 @@ use Rattle.rules.specs.declared.Due.the-variants as due
 use Rattle.rules.specs.declared.Offer.{Offer}
 use Rattle.rules.specs.declared.Fields.{Fields}
 use Rattle.rules.specs.declared.Fields.the-variants as fields
-use Rattle.reader.specs.declared.Bare.{Bare}
-use Rattle.reader.specs.declared.Call.{Call}
-use Rattle.reader.specs.declared.Read.{Read}
+use Rattle.beside.specs.declared.Bare.{Bare}
+use Rattle.beside.specs.declared.Call.{Call}
+use Rattle.beside.specs.declared.Read.{Read}
 use Rattle.reader.specs.declared.Said.{Said}
 use Rattle.reader.specs.declared.Said.the-variants as said
 use Rattle.writer.specs.Write.{refuses, writtenOf, bufferOf}

@@ -8,10 +8,10 @@ use Rattle.rules.specs.Offers.{InRange}
 use Rattle.rules.specs.declared.Place.{Place}
 use Rattle.rules.specs.declared.Offer.{Offer}
 use Rattle.reader.specs.Stream.{fresh}
-use Rattle.reader.specs.Beside.{lend, bareOf, callFor, carryFor}
-use Rattle.reader.specs.Rows.{readWith}
+use Rattle.beside.specs.Beside.{lend, bareOf, callFor, carryFor}
+use Rattle.beside.specs.Rows.{readWith}
 use Rattle.reader.specs.Readings.{Begun}
-use Rattle.reader.specs.declared.Bare.{Bare}
+use Rattle.beside.specs.declared.Bare.{Bare}
 use Rattle.writer.specs.Write as write
 use Rattle.writer.specs.Writings.{Call, InRanges, written}
 use Rattle.writer.specs.declared.Writer.{Writer}

@@ -1,15 +1,15 @@
 // For a host that reads a shard piece by piece: a fresh reader, a whole piece into a table of rows, and the verdict.
+use beside::Bare;
 use host::ReadState;
 use host::ReaderState;
 use host::VerdictState;
 use host::readers;
 use host::records;
-use reader::Bare;
 ghost use mathlib.Core.Path.{_≡_};
 ghost use mathlib.Core.List.{[]};
 ghost use Rattle.reader.specs.Stream.{fresh, verdictOf};
-ghost use Rattle.reader.specs.Beside.{lend, bareOf};
-ghost use Rattle.reader.specs.Rows.{readWith};
+ghost use Rattle.beside.specs.Beside.{lend, bareOf};
+ghost use Rattle.beside.specs.Rows.{readWith};
 ghost use Rattle.host.specs.Boundary.{readerIn, readerOut, readOut, verdictOut};
 
 // A fresh reader, with nothing in its carry.

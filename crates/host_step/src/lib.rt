@@ -3,7 +3,7 @@ use host::ReaderState;
 use host::StepState;
 use host::readers;
 ghost use mathlib.Core.Path.{_≡_};
-ghost use Rattle.reader.specs.Beside.{callFor, carryFor};
+ghost use Rattle.beside.specs.Beside.{callFor, carryFor};
 ghost use Rattle.host.specs.Boundary.{readerIn, stepOut};
 
 // One call of the reader.

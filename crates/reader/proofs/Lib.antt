@@ -1,11 +1,9 @@
 pub mod Sizes
 pub mod Carry
 pub mod Calls
-pub mod Lending
+pub mod Carried
 pub mod Bridge
 pub mod Reached
 pub mod Cut
 pub mod Whole
-pub mod Turns
-pub mod Shown
 pub mod Theorem

@@ -11,11 +11,9 @@ use Rattle.reader.specs.Stream.{stepOf}
 use Rattle.reader.specs.Readings.{Begun, SomeTaken, EnoughClaim, ReaderClaim}
 use Rattle.reader.specs.declared.Reader.{Reader}
 use Rattle.reader.proofs.Sizes.{size-most}
-use Rattle.reader.proofs.Lending.{lend-back}
 use Rattle.reader.proofs.Calls.{no-more, some-more, refuses}
 use Rattle.reader.proofs.Reached.{stands, kept}
 use Rattle.reader.proofs.Cut.{offers-run, cut, whole, any-calls}
-use Rattle.reader.proofs.Shown.{shows, begun-read}
 
 enough : (r : Reader) → Begun r → (piece : List ℕ) → Bytes piece → EnoughClaim r piece
 enough r b piece y n l =
@@ -37,7 +35,7 @@ few r b = go (kept r b .fits)
     go (inr z) = omega (arith, z .1)
 
 pub reader : ReaderClaim
-reader = record { cut = cut; whole = whole; calls = any-calls; kept = kept; enough = enough; takes = takes; most = no-more; refused = refuses; shows = shows; reads = begun-read; few = few; lent = λ r b carry l. lend-back carry l r (kept r b .long) (kept r b .zeros) (few r b) }
+reader = record { cut = cut; whole = whole; calls = any-calls; kept = kept; enough = enough; takes = takes; most = no-more; refused = refuses; few = few }
 
 -- ONLY: what is said to be one thing is one thing; so two results of a function that promises `r ≡ X` are equal
 pub only : {A : Type 0} {x y : A} (z : A) → x ≡ z → y ≡ z → x ≡ y

@@ -1,5 +1,4 @@
 pub mod Stream
-pub mod Beside
+pub mod Carry
 pub mod Whole
-pub mod Rows
 pub mod Readings

@@ -2,9 +2,9 @@
 use mathlib.Core.Path.{_≡_}
 use mathlib.Core.Logic.{_⊎_}
 use mathlib.Core.List.{List, [], _∷_, _++_}
-use Prim.Native.Nat.{ℕ, zero, suc, _+_, _-_, _*_, _/_, _≤_, _<_}
+use Prim.Native.Nat.{ℕ, zero, suc, _-_, _≤_, _<_}
 use lib.ListN.{length, drop, replicate}
-use Rattle.words.specs.Le.{Bytes, puts}
+use Rattle.words.specs.Le.{Bytes}
 use Rattle.words.specs.Record.{hashAt}
 use Rattle.cut.specs.Format.{State, at, stopped, Run}
 use Rattle.cut.specs.Calls.{joined, lookedAll}
@@ -19,8 +19,6 @@ use Rattle.rules.specs.declared.Verdict.the-variants as verdict
 use Rattle.layout.specs.Scan.{format, begin, scan, foundIn}
 use Rattle.layout.specs.Reach.{Reached, totalsWith}
 use Rattle.reader.specs.Stream.{emptied, tagIn, fresh, noRecord, silent, stepOf, verdictOf}
-use Rattle.reader.specs.Beside.{lend, bareOf, keptIn}
-use Rattle.reader.specs.Rows.{rowIn, Reading, readFor}
 use Rattle.reader.specs.declared.Reader.{Reader}
 use Rattle.reader.specs.declared.Said.{Said}
 use Rattle.reader.specs.declared.Said.the-variants as said
@@ -150,17 +148,6 @@ pub record RefusedClaim (r : Reader) (piece : List ℕ) : Type 0 where
   pub again : (number : ℕ) → r .place .due ≡ Refused number
       → stepOf r piece ≡ record { reader = r; answer = silent 0 (said.Refused (refusalAt number (r .place))) }
 
--- a table with these records' rows, from row n on
-unfoldable pub rowsFrom : ℕ → List ℕ → List Record → List ℕ
-rowsFrom n table [] = table
-rowsFrom n table (r ∷ rs) = rowsFrom (n + 1) (puts table (9 * n) (rowIn r)) rs
-
--- ROWS: a read of a whole piece shows what some calls hand out: the reader, how many records, and their rows.
-pub record ShowsClaim (x : Reading) (n : ℕ) (table : List ℕ) (seen : Seen) : Type 0 where
-  pub reader : x .answer .reader ≡ seen .reader
-  pub count : x .answer .count ≡ n + length (seen .records)
-  pub rows : x .table ≡ rowsFrom n table (seen .records)
-
 -- ALL OF THEM
 pub record ReaderClaim : Type 0 where
   pub cut : (tag : List ℕ) (pieces : List (List ℕ)) → Bytes (joined pieces) → CutClaim tag pieces
@@ -171,11 +158,5 @@ pub record ReaderClaim : Type 0 where
   pub takes : (r : Reader) → Begun r → (piece : List ℕ) → SomeTaken r piece
   pub most : (r : Reader) (piece : List ℕ) → NoMoreTaken r piece
   pub refused : (r : Reader) (piece : List ℕ) → RefusedClaim r piece
-  -- as many calls as the table has rows
-  pub shows : (r : Reader) → Begun r → (piece : List ℕ) → Bytes piece → (table : List ℕ) → 9 ≤ length table
-      → ShowsClaim (readFor r piece table) 0 table (offers (length table / 9) r piece)
-  -- and the reader after a read is one that calls give
-  pub reads : (r : Reader) → Begun r → (piece : List ℕ) → Bytes piece → (table : List ℕ) → Begun (readFor r piece table .answer .reader)
-  -- what a begun reader leaves in the bytes lent is all that it needs to go on: it carries at most 200 bytes, and with them is the same again
+  -- it carries at most 200 bytes
   pub few : (r : Reader) → Begun r → r .have ≤ 200
-  pub lent : (r : Reader) → Begun r → (carry : List ℕ) → 200 ≤ length carry → lend (bareOf r) (keptIn carry r) ≡ r

@@ -1,15 +1,12 @@
-// The reader: a shard in pieces, as a state passed and returned, or lent and advanced in place, or with its carry lent beside it; and the judge of
-// a whole shard in a buffer. What one call of the reader does is said in specs/Stream, with a lent carry in specs/Beside, a whole piece in
-// specs/Rows, and one turn of the judge in specs/Whole.
+// The reader: a shard in pieces, as a state passed and returned, or lent and advanced in place; and the judge of a whole shard in a buffer. What one
+// call of the reader does is said in specs/Stream, and one turn of the judge in specs/Whole.
 use rules::Place;
 use rules::Record;
 use rules::Refusal;
 
-mod beside;
 mod judging;
 mod lent;
-mod rows;
-mod steps;
+pub mod steps;
 
 pub use judging::judge;
 pub use judging::last_place;
@@ -39,25 +36,4 @@ pub struct Answer {
 pub struct Step {
     pub reader: Reader,
     pub answer: Answer,
-}
-
-// A reader without its carry, which is lent beside it: how many bytes the carry has, the tag, and the place.
-pub struct Bare {
-    pub have: usize,
-    pub tag: [u64; 4],
-    pub place: Place,
-}
-
-// What a call with a lent carry gives.
-pub struct Call {
-    pub reader: Bare,
-    pub answer: Answer,
-}
-
-// What reading a whole piece gives: the reader, the bytes taken, the rows filled, and what was said last.
-pub struct Read {
-    pub reader: Bare,
-    pub taken: usize,
-    pub count: usize,
-    pub said: Said,
 }

@@ -21,7 +21,7 @@ ghost use Rattle.rules.specs.Rules.{sizeOf, wordsIn, faultIn};
 ghost use Rattle.rules.specs.Verdicts.{refused, refusalAt};
 ghost use Rattle.reader.specs.declared.Said.the-variants as said;
 ghost use Rattle.reader.specs.Stream.{startFor, emptied, fresh, noRecord, silent, placeAfter, recordAfter, saidAfter, settledBy, kept, stopped, stepOf, verdictOf};
-ghost use Rattle.reader.specs.Beside.{upTo, carryIn};
+ghost use Rattle.reader.specs.Carry.{upTo, carryIn};
 
 // What the bytes of a whole record say: its numbers, and the number of the refusal, 0 if it is good.
 pub struct Heard {
@@ -172,7 +172,7 @@ impl Reader {
     }
 
     // After a whole record, good or faulty, all of the carry is zero.
-    pub(crate) fn settle(self, sequel: Sequel, taken: usize) -> Step
+    pub fn settle(self, sequel: Sequel, taken: usize) -> Step
         ensures { λ r. ⌜ r ≡ settledBy (self .tag) (sequel .place) (sequel .found) (sequel .said) taken ⌝ }
     {
         let tag = self.tag;
@@ -215,7 +215,7 @@ impl Reader {
     }
 
     // After the end or a refusal: a byte after the end is refused with 14, and a refusal is repeated.
-    pub(crate) fn stop(self, length: usize) -> Step
+    pub fn stop(self, length: usize) -> Step
         ensures { λ r. ⌜ r ≡ stopped self length ⌝ }
     {
         let place = self.place;

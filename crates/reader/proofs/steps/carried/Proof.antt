@@ -1,6 +1,6 @@
 -- `carried` meets its contract: what it has goes before zeros. Assumes nothing.
 use native.Mathlib.Omega.{arith}
-use Rattle.reader.proofs.Lending.{up-most}
+use Rattle.reader.proofs.Carried.{up-most}
 use borrow.Author.Needs.{needs}
 use Rattle.reader.proofs.steps.carried.Statement.{statement}
 use Rattle.reader.proofs.steps.carried.Tie as tie

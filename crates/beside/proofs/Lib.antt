@@ -1,0 +1,4 @@
+pub mod Lending
+pub mod Turns
+pub mod Shown
+pub mod Theorem

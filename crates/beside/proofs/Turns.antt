@@ -1,0 +1,176 @@
+-- The turns of a read: each is one call of `reads`, because it judges the bytes that the carry has and those behind them, and nothing is carried after a
+-- record; and the bytes taken and the rows filled stay within what is there. Assumes nothing.
+use mathlib.Core.Path.{_≡_, refl, sym, ap, _∙_}
+use mathlib.Core.Logic.{_⊎_, inl, inr}
+use mathlib.Core.Bool.{Bool, true, false}
+use mathlib.Core.List.{List}
+use Prim.Native.Nat.{ℕ, zero, suc, _+_, _-_, _*_, _/_, _≤_, _<_}
+use native.Mathlib.Nat.{not-suc-le-zero}
+use native.Mathlib.Numerals.{sub-one}
+use native.Mathlib.Omega.{arith}
+use lib.Dec.{eqb, ltb}
+use lib.ListN.{length, drop, length-drop}
+use lib.Seq.{paste}
+use borrow.Author.Tests.{eq-eqb, ne-eqb, lt-ltb, le-ltb, eqb-true, eqb-false, ltb-true, ltb-false}
+use Rattle.words.specs.Checks.{pick}
+use Rattle.words.specs.Le.{puts}
+use Rattle.words.specs.declared.Words.{Words}
+use Rattle.words.proofs.Stores.{length-puts}
+use Rattle.rules.specs.Rules.{sizeOf, wordsIn, faultIn, nextOf, recordOf}
+use Rattle.rules.specs.Held.{held}
+use Rattle.rules.specs.Verdicts.{refused, refusalAt, verdictAt}
+use Rattle.rules.specs.declared.Place.{Place}
+use Rattle.rules.specs.declared.Verdict.{Verdict}
+use Rattle.rules.specs.declared.Verdict.the-variants as verdict
+use Rattle.reader.specs.Stream.{noRecord, settledBy, settled, stoppedBy, lacking, stepOf}
+use Rattle.reader.specs.Carry.{carryIn}
+use Rattle.beside.specs.Beside.{lend, haltBy}
+use Rattle.beside.specs.Rows.{rowIn, isRecord, answered, endedBy, Reading, nextStep, reads, tooShort, readFor, bareRead, lentBy, readWith}
+use Rattle.reader.specs.declared.Reader.{Reader}
+use Rattle.beside.specs.declared.Bare.{Bare}
+use Rattle.reader.specs.declared.Step.{Step}
+use Rattle.reader.specs.declared.Said.the-variants as said
+use Rattle.reader.proofs.Calls.{either, step-none, step-kept, step-settled, no-more}
+
+-- ## Where the calls begin
+
+pub short : (r : Reader) (piece table : List ℕ) → length table < 9 → readFor r piece table ≡ record { answer = tooShort r; table = table }
+unfolding readFor
+short r piece table l = rw (lt-ltb _ _ l)
+
+pub long : (r : Reader) (piece table : List ℕ) → 9 ≤ length table → readFor r piece table ≡ reads (length table / 9) r piece 0 0 table
+unfolding readFor
+long r piece table l = rw (le-ltb _ _ l)
+
+module _ (b : Bare) (carry piece table : List ℕ) where
+  pub too-few : length carry < 200 → readWith b carry piece table ≡ record { answer = bareRead (tooShort (lend b carry)); carry = carry; table = table }
+  unfolding readWith
+  too-few l = rw (lt-ltb _ _ l)
+
+  pub with-carry : 200 ≤ length carry → {x : Reading} → readFor (lend b carry) piece table ≡ x → readWith b carry piece table ≡ lentBy carry x
+  unfolding readWith
+  with-carry l e = rw (le-ltb _ _ l, e)
+
+-- ## The turns of the definition
+
+full-by : (left : ℕ) (r : Reader) (piece : List ℕ) (taken count : ℕ) (table : List ℕ) → left ≤ 0
+    → reads left r piece taken count table ≡ record { answer = answered r taken count said.Record; table = table }
+unfolding reads
+full-by zero r piece taken count table h = refl
+full-by (suc left) r piece taken count table h = absurd (not-suc-le-zero h)
+
+over-by : (left : ℕ) (r : Reader) (piece : List ℕ) (taken count : ℕ) (table : List ℕ) → 0 < left → (s : Step) → nextStep r piece taken ≡ s → isRecord (s .answer .said) ≡ false
+    → reads left r piece taken count table ≡ record { answer = endedBy s taken count; table = table }
+unfolding reads
+over-by zero r piece taken count table h s e t = absurd (not-suc-le-zero h)
+over-by (suc left) r piece taken count table h s e t = rw (e, t)
+
+on-by : (left : ℕ) (r : Reader) (piece : List ℕ) (taken count : ℕ) (table : List ℕ) → 0 < left → (s : Step) → nextStep r piece taken ≡ s → isRecord (s .answer .said) ≡ true
+    → reads left r piece taken count table ≡ reads (left - 1) (s .reader) piece (taken + s .answer .taken) (count + 1) (puts table (9 * count) (rowIn (s .answer .found)))
+unfolding reads
+on-by zero r piece taken count table h s e t = absurd (not-suc-le-zero h)
+on-by (suc left) r piece taken count table h s e t = rw (e, t, sub-one)
+
+-- ## A call that finds no whole record hands out none
+
+silent-end : (v : Verdict) (r : Reader) (n : ℕ) → isRecord (stoppedBy v r n .answer .said) ≡ false
+silent-end (verdict.Refused refusal) r n = refl
+silent-end (verdict.Accepted summary) r n = either (λ (s : Step). isRecord (s .answer .said) ≡ false) (eqb n 0) refl refl
+
+module _ (r : Reader) (rest : List ℕ) where
+  -- nothing is due, or the piece is too short
+  halts : haltBy (sizeOf (r .place)) (lacking r) (length rest) ≡ true → (sizeOf (r .place) ≡ 0) ⊎ (length rest < lacking r)
+  halts e = go (eqb (sizeOf (r .place)) 0) refl e
+    where
+      go : (t : Bool) → eqb (sizeOf (r .place)) 0 ≡ t → pick t true (ltb (length rest) (lacking r)) ≡ true → (sizeOf (r .place) ≡ 0) ⊎ (length rest < lacking r)
+      go true i k = inl (eqb-true _ _ i)
+      go false i k = inr (ltb-true _ _ k)
+
+  pub halt-short : haltBy (sizeOf (r .place)) (lacking r) (length rest) ≡ true → (sizeOf (r .place) ≡ 0 → ⊥) → length rest < lacking r
+  halt-short e n = go (halts e)
+    where
+      go : (sizeOf (r .place) ≡ 0) ⊎ (length rest < lacking r) → length rest < lacking r
+      go (inl z) = absurd (n z)
+      go (inr l) = l
+
+  halt-silent : haltBy (sizeOf (r .place)) (lacking r) (length rest) ≡ true → isRecord (stepOf r rest .answer .said) ≡ false
+  halt-silent e = go (halts e)
+    where
+      go : (sizeOf (r .place) ≡ 0) ⊎ (length rest < lacking r) → isRecord (stepOf r rest .answer .said) ≡ false
+      go (inl z) = rw (step-none r rest z) (silent-end (verdictAt (r .place)) r (length rest))
+      go (inr l) = rw (step-kept r rest l)
+
+-- else all of it is there
+whole-there : (size lacks left : ℕ) → haltBy size lacks left ≡ false → (0 < size) × (lacks ≤ left)
+whole-there size lacks left e = go (eqb size 0) refl e
+  where
+    go : (t : Bool) → eqb size 0 ≡ t → pick t true (ltb left lacks) ≡ false → (0 < size) × (lacks ≤ left)
+    go true i k = let m : _≡_ {A = ℕ} 0 1 = ap (λ (t : Bool). pick t 0 1) k in absurd (omega arith)
+    go false i k = let z : size ≡ 0 → ⊥ = eqb-false _ _ i in (omega arith, ltb-false _ _ k)
+
+-- what is found of the numbers of a turn holds of the reader's
+module _ (p : Place) (have left : ℕ) {size lacks : ℕ} {t : Bool} (s : size ≡ sizeOf p) (m : lacks ≡ size - have) (h : t ≡ haltBy size lacks left) where
+  lack : lacks ≡ sizeOf p - have
+  lack = rw s at m
+
+  pub halt-here : t ≡ true → haltBy (sizeOf p) (sizeOf p - have) left ≡ true
+  halt-here e = rw (← lack, ← s) (sym h ∙ e)
+
+  pub whole-here : t ≡ false → (lacks ≡ sizeOf p - have) × (0 < sizeOf p) × (lacks ≤ left)
+  whole-here e = let w = whole-there size lacks left (sym h ∙ e) in (lack, rw s at (w .0), w .1)
+
+-- ## The loop
+
+-- a state of the loop: room for the rows left, no byte taken that is not there, and what is still read is what all of it reads
+pub record Loop (carry piece tag table₀ : List ℕ) (all : Reading) (table : List ℕ) (place : Place) (have taken count left : ℕ) : Type 0 where
+  pub room : 9 * count + 9 * left ≤ length table₀
+  pub same : length table ≡ length table₀
+  pub inside : taken ≤ length piece
+  pub rest : reads left (lend (record { have = have; tag = tag; place = place }) carry) piece taken count table ≡ all
+
+pub begins : (b : Bare) (carry piece table : List ℕ) → 9 ≤ length table
+    → Loop carry piece (b .tag) table (readFor (lend b carry) piece table) table (b .place) (b .have) 0 0 (length table / 9)
+begins b carry piece table l = record { room = omega arith; same = refl; inside = omega arith; rest = sym (long (lend b carry) piece table l) }
+
+module _ {carry piece tag table₀ : List ℕ} {all : Reading} {table : List ℕ} {place : Place} {have taken count left : ℕ}
+    (l : Loop carry piece tag table₀ all table place have taken count left) where
+  abbrev pub here : Reader
+  here = lend (record { have = have; tag = tag; place = place }) carry
+
+  abbrev pub failed : ℕ → ℕ → Step
+  failed number lacks = settledBy tag (refused number place) noRecord (said.Refused (refusalAt number place)) lacks
+
+  pub full : left ≤ 0 → all ≡ record { answer = answered here taken count said.Record; table = table }
+  full h = sym (l .rest) ∙ full-by left here piece taken count table h
+
+  pub within : taken + stepOf here (drop taken piece) .answer .taken ≤ length piece
+  within = omega (arith, l .inside, simp length-drop at (no-more here (drop taken piece)))
+
+  pub halted : 0 < left → haltBy (sizeOf place) (sizeOf place - have) (length piece - taken) ≡ true
+      → all ≡ record { answer = endedBy (stepOf here (drop taken piece)) taken count; table = table }
+  halted h e = sym (l .rest) ∙ over-by left here piece taken count table h (stepOf here (drop taken piece)) refl (halt-silent here (drop taken piece) (rw length-drop e))
+
+  module _ {lacks : ℕ} (there : (lacks ≡ sizeOf place - have) × (0 < sizeOf place) × (lacks ≤ length piece - taken))
+      {w : Words} (u : w ≡ wordsIn place (paste (carryIn carry have) have (drop taken piece) lacks))
+      {number : ℕ} (v : number ≡ faultIn tag place (paste (carryIn carry have) have (drop taken piece) lacks)) where
+    step-here : stepOf here (drop taken piece) ≡ settled here w number lacks
+    step-here = step-settled here (drop taken piece) (there .1) (there .0) (simp length-drop (omega (arith, there .2))) u v
+
+    pub refuses : 0 < left → (number ≡ 0 → ⊥) → all ≡ record { answer = endedBy (failed number lacks) taken count; table = table }
+    refuses h n =
+        let f : settled here w number lacks ≡ failed number lacks = rw (ne-eqb number 0 n) in
+        sym (l .rest) ∙ over-by left here piece taken count table h (failed number lacks) (step-here ∙ f) refl
+
+    pub on : 0 < left → number ≡ 0 → {next : Place} → next ≡ held (nextOf place w) → {table' : List ℕ} → table' ≡ puts table (9 * count) (rowIn (recordOf place w))
+        → Loop carry piece tag table₀ all table' next 0 (taken + lacks) (count + 1) (left - 1)
+    on h z {next} n {table'} q =
+        let f : settled here w number lacks ≡ passed = rw (eq-eqb number 0 z) in
+        record {
+          room = omega (arith, l .room);
+          same = rw (q, length-puts table (9 * count) (rowIn (recordOf place w))) (l .same);
+          inside = omega (arith, l .inside, there .2);
+          rest = rw (q, n) (sym (on-by left here piece taken count table h passed (step-here ∙ f) refl) ∙ l .rest);
+        }
+      where
+        passed : Step
+        passed = settledBy tag (held (nextOf place w)) (recordOf place w) said.Record lacks

@@ -1,0 +1,79 @@
+-- `put_row` meets its contract: the nine stores are those of `puts`. Assumes nothing.
+use native.Mathlib.Omega.{arith}
+use lib.ListN.{length-set}
+use Rattle.words.specs.Le.{puts}
+use borrow.Author.Needs.{needs}
+use Rattle.beside.proofs.rows.put_row.Statement.{statement}
+use Rattle.beside.proofs.rows.put_row.Tie as tie
+
+slice-write-table-2 : tie.Need-slice-write-table-2
+slice-write-table-2 c = simp length-set (omega arith)
+
+slice-write-table-3 : tie.Need-slice-write-table-3
+slice-write-table-3 c = simp length-set (omega arith)
+
+slice-write-table-4 : tie.Need-slice-write-table-4
+slice-write-table-4 c = simp length-set (omega arith)
+
+slice-write-table-5 : tie.Need-slice-write-table-5
+slice-write-table-5 c = simp length-set (omega arith)
+
+slice-write-table-6 : tie.Need-slice-write-table-6
+slice-write-table-6 c = simp length-set (omega arith)
+
+slice-write-table-7 : tie.Need-slice-write-table-7
+slice-write-table-7 c = simp length-set (omega arith)
+
+slice-write-table-8 : tie.Need-slice-write-table-8
+slice-write-table-8 c = simp length-set (omega arith)
+
+slice-write-table-9 : tie.Need-slice-write-table-9
+slice-write-table-9 c = simp length-set (omega arith)
+
+same-length : tie.Need-same-length
+same-length c = simp length-set
+
+returns : tie.Need-returns
+unfolding puts
+returns c = rw (c .joined2 .ensures, c .before .joined .ensures, c .before .before .row .ensures)
+
+pub put-row-spec : {M : Type 1} → statement M
+put-row-spec =
+    tie.close
+    (tie.spec
+    (λ c. λ κs. search needs)
+    (λ c. λ κs. search needs)
+    (λ c. λ κs. search needs)
+    (λ c. search needs)
+    (λ c. search needs)
+    (λ c. search needs)
+    (λ c. search needs)
+    (λ c. search needs)
+    (λ c. search needs)
+    (λ c. search needs)
+    (λ c. search needs)
+    (λ c. search needs)
+    (λ c. search needs)
+    (λ c. search needs)
+    (λ c. search needs)
+    slice-write-table-2
+    (λ c. search needs)
+    slice-write-table-3
+    (λ c. search needs)
+    (λ c. search needs)
+    slice-write-table-4
+    (λ c. search needs)
+    (λ c. search needs)
+    slice-write-table-5
+    (λ c. search needs)
+    (λ c. search needs)
+    slice-write-table-6
+    (λ c. search needs)
+    (λ c. search needs)
+    slice-write-table-7
+    (λ c. search needs)
+    slice-write-table-8
+    (λ c. search needs)
+    slice-write-table-9
+    same-length
+    returns)

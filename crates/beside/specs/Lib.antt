@@ -1,0 +1,3 @@
+pub mod Beside
+pub mod Rows
+pub mod Showings
