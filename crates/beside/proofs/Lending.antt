@@ -15,11 +15,11 @@ use Rattle.rules.specs.declared.Place.{Place}
 use Rattle.rules.specs.declared.Verdict.{Verdict}
 use Rattle.rules.specs.declared.Verdict.the-variants as verdict
 use Rattle.reader.specs.Stream.{emptied, stoppedBy, stopped}
-use Rattle.reader.specs.Carry.{upTo, carryIn}
+use Rattle.carry.specs.Carry.{upTo, carryIn}
 use Rattle.reader.specs.declared.Reader.{Reader}
 use Rattle.reader.specs.declared.Step.{Step}
-use Rattle.reader.proofs.Carry.{drop-zeros}
-use Rattle.reader.proofs.Carried.{up-most, up-small, front-of, front, in-long}
+use Rattle.carry.proofs.Carry.{drop-zeros}
+use Rattle.carry.proofs.Lent.{up-most, up-small, front-of, front, in-long}
 use Rattle.reader.proofs.Calls.{either}
 use Rattle.beside.specs.Beside.{lend, bareOf, keptIn, callOf, dressedIn}
 use Rattle.beside.specs.declared.Bare.{Bare}

@@ -23,7 +23,7 @@ use Rattle.rules.specs.declared.Place.{Place}
 use Rattle.rules.specs.declared.Verdict.{Verdict}
 use Rattle.rules.specs.declared.Verdict.the-variants as verdict
 use Rattle.reader.specs.Stream.{noRecord, settledBy, settled, stoppedBy, lacking, stepOf}
-use Rattle.reader.specs.Carry.{carryIn}
+use Rattle.carry.specs.Carry.{carryIn}
 use Rattle.beside.specs.Beside.{lend, haltBy}
 use Rattle.beside.specs.Rows.{rowIn, isRecord, answered, endedBy, Reading, nextStep, reads, tooShort, readFor, bareRead, lentBy, readWith}
 use Rattle.reader.specs.declared.Reader.{Reader}

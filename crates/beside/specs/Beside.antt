@@ -9,7 +9,7 @@ use lib.Seq.{paste}
 use Rattle.words.specs.Checks.{pick}
 use Rattle.rules.specs.Verdicts.{refusalAt}
 use Rattle.reader.specs.Stream.{silent, stepOf}
-use Rattle.reader.specs.Carry.{upTo, carryIn}
+use Rattle.carry.specs.Carry.{upTo, carryIn}
 use Rattle.reader.specs.declared.Reader.{Reader}
 use Rattle.reader.specs.declared.Step.{Step}
 use Rattle.beside.specs.declared.Bare.{Bare}

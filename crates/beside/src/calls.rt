@@ -1,6 +1,8 @@
 // The reader with its carry lent beside it. Of the carry only the bytes that it has are looked at, and only the bytes kept are written.
 use crate::Bare;
 use crate::Call;
+use carry::hear;
+use carry::missing;
 use reader::Answer;
 use reader::Reader;
 use reader::Said;
@@ -8,8 +10,6 @@ use reader::Step;
 use reader::steps::NO_RECORD;
 use reader::steps::Sequel;
 use reader::steps::after;
-use reader::steps::hear;
-use reader::steps::missing;
 use reader::steps::silence;
 use rules::Refusal;
 use rules::Verdict;

@@ -33,8 +33,8 @@ use Rattle.reader.specs.declared.Reader.{Reader}
 use Rattle.reader.specs.declared.Said.{Said}
 use Rattle.reader.specs.declared.Said.the-variants as said
 use Rattle.reader.specs.declared.Step.{Step}
-use Rattle.reader.proofs.Sizes.{size-most}
-use Rattle.reader.proofs.Carry.{put-carry, words-own, fault-own}
+use Rattle.carry.proofs.Sizes.{size-most}
+use Rattle.carry.proofs.Carry.{put-carry, words-own, fault-own}
 use Rattle.reader.proofs.Calls.{step-none, step-kept, step-completed, again, verdict-refused}
 
 -- ## What a step on states is, as the reader's own

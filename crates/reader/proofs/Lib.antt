@@ -1,7 +1,4 @@
-pub mod Sizes
-pub mod Carry
 pub mod Calls
-pub mod Carried
 pub mod Bridge
 pub mod Reached
 pub mod Cut

@@ -33,7 +33,7 @@ use Rattle.reader.specs.Stream.{tagIn, emptied, fresh, stepOf}
 use Rattle.reader.specs.Readings.{Begun, begun, after, readerOf, KeptClaim}
 use Rattle.reader.specs.declared.Reader.{Reader}
 use Rattle.reader.specs.declared.Step.{Step}
-use Rattle.reader.proofs.Sizes.{size-most}
+use Rattle.carry.proofs.Sizes.{size-most}
 use Rattle.reader.proofs.Bridge.{outOf, Known, step-out}
 
 -- ## Bytes

@@ -10,7 +10,7 @@ use Rattle.rules.specs.Rules.{sizeOf}
 use Rattle.reader.specs.Stream.{stepOf}
 use Rattle.reader.specs.Readings.{Begun, SomeTaken, EnoughClaim, ReaderClaim}
 use Rattle.reader.specs.declared.Reader.{Reader}
-use Rattle.reader.proofs.Sizes.{size-most}
+use Rattle.carry.proofs.Sizes.{size-most}
 use Rattle.reader.proofs.Calls.{no-more, some-more, refuses}
 use Rattle.reader.proofs.Reached.{stands, kept}
 use Rattle.reader.proofs.Cut.{offers-run, cut, whole, any-calls}

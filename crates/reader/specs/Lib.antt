@@ -1,4 +1,3 @@
 pub mod Stream
-pub mod Carry
 pub mod Whole
 pub mod Readings

@@ -1,6 +1,6 @@
 // The judge of a whole shard in a lent buffer: record by record, straight from the buffer, with no carry.
-use crate::steps::hear;
 use crate::steps::start_for;
+use carry::hear;
 use rules::Place;
 use rules::Refusal;
 use rules::Verdict;

@@ -5,7 +5,7 @@ use native.Mathlib.Omega.{arith}
 use lib.ListN.{length}
 use Rattle.rules.specs.Rules.{sizeOf}
 use Rattle.beside.specs.Beside.{lend}
-use Rattle.reader.proofs.Sizes.{size-most}
+use Rattle.carry.proofs.Sizes.{size-most}
 use Rattle.reader.proofs.Calls.{step-none, step-kept}
 use Rattle.beside.proofs.Lending.{kept-more, stop-same, stop-kept}
 use Rattle.beside.proofs.Turns.{halt-short}

@@ -1,7 +1,7 @@
 -- `keep` meets its contract: the carry has room for what is missing. Assumes nothing.
 use mathlib.Core.Path.{refl}
 use native.Mathlib.Omega.{arith}
-use Rattle.reader.proofs.Sizes.{size-most}
+use Rattle.carry.proofs.Sizes.{size-most}
 use borrow.Author.Needs.{needs}
 use Rattle.beside.proofs.Bare.keep.Statement.{statement}
 use Rattle.beside.proofs.Bare.keep.Tie as tie

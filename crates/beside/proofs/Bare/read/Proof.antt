@@ -6,7 +6,7 @@ use lib.ListN.{length, drop, length-drop}
 use lib.Seq.{take-all}
 use Rattle.beside.specs.Beside.{lend}
 use Rattle.beside.specs.Rows.{readFor}
-use Rattle.reader.proofs.Carried.{up-most}
+use Rattle.carry.proofs.Lent.{up-most}
 use Rattle.beside.proofs.Lending.{kept-none, kept-same}
 use Rattle.beside.proofs.Turns.{short, too-few, with-carry, Loop, begins, full, halt-here, whole-here, within, halted, refuses, on}
 use borrow.Author.Needs.{needs}

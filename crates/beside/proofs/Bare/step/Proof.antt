@@ -5,7 +5,7 @@ use lib.ListN.{length}
 use borrow.Author.Tests.{lt-ltb, le-ltb}
 use Rattle.beside.specs.Beside.{lend, callFor, carryFor}
 use Rattle.reader.proofs.Calls.{step-settled}
-use Rattle.reader.proofs.Carried.{up-most}
+use Rattle.carry.proofs.Lent.{up-most}
 use Rattle.beside.proofs.Lending.{kept-none}
 use Rattle.beside.proofs.Turns.{halt-here, whole-here}
 use borrow.Author.Needs.{needs}

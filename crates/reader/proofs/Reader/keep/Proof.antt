@@ -1,6 +1,6 @@
 -- `keep` meets its contract: the carry has room for what is missing. Assumes nothing.
 use native.Mathlib.Omega.{arith}
-use Rattle.reader.proofs.Sizes.{size-most}
+use Rattle.carry.proofs.Sizes.{size-most}
 use Rattle.reader.proofs.Reader.keep.Statement.{statement}
 use Rattle.reader.proofs.Reader.keep.Tie as tie
 

@@ -6,7 +6,7 @@ use native.Mathlib.Nat.{sub-zero}
 use lib.ListN.{length, take, drop, replicate, length-drop}
 use lib.Seq.{take-all, length-take-le}
 use Rattle.rules.specs.Rules.{sizeOf}
-use Rattle.reader.proofs.Carry.{words-own, fault-own}
+use Rattle.carry.proofs.Carry.{words-own, fault-own}
 use Rattle.reader.proofs.Whole.{turn-end, turn-short, turn-full}
 use borrow.Author.Needs.{needs}
 use Rattle.reader.proofs.judging.turn_at.Statement.{statement}

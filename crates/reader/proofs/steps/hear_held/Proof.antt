@@ -3,9 +3,9 @@ use mathlib.Core.Path.{_≡_, _∙_}
 use native.Mathlib.Omega.{arith}
 use lib.ListN.{length}
 use Rattle.rules.specs.Rules.{sizeOf, wordsIn, faultIn}
-use Rattle.reader.proofs.Sizes.{size-most}
-use Rattle.reader.proofs.Carry.{words-own, fault-own}
-use Rattle.reader.proofs.Carried.{up-most, own-bytes}
+use Rattle.carry.proofs.Sizes.{size-most}
+use Rattle.carry.proofs.Carry.{words-own, fault-own}
+use Rattle.carry.proofs.Lent.{up-most, own-bytes}
 use borrow.Author.Needs.{needs}
 use Rattle.reader.proofs.steps.hear_held.Statement.{statement}
 use Rattle.reader.proofs.steps.hear_held.Tie as tie

@@ -1,9 +1,9 @@
 -- `carried` meets its contract: what it has goes before zeros. Assumes nothing.
 use native.Mathlib.Omega.{arith}
-use Rattle.reader.proofs.Carried.{up-most}
+use Rattle.carry.proofs.Lent.{up-most}
 use borrow.Author.Needs.{needs}
-use Rattle.reader.proofs.steps.carried.Statement.{statement}
-use Rattle.reader.proofs.steps.carried.Tie as tie
+use Rattle.carry.proofs.carried.Statement.{statement}
+use Rattle.carry.proofs.carried.Tie as tie
 
 filled-requires : tie.Need-filled-requires
 filled-requires c κs =

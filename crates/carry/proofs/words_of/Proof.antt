@@ -1,11 +1,11 @@
 -- `words_of` meets its contract: the 48 bytes are in the filled carry, or in the piece where nothing was carried. Assumes nothing.
 use mathlib.Core.Path.{_≡_}
 use native.Mathlib.Omega.{arith}
-use Rattle.reader.specs.Carry.{carryIn}
-use Rattle.reader.proofs.Carry.{words-pasted}
+use Rattle.carry.specs.Carry.{carryIn}
+use Rattle.carry.proofs.Carry.{words-pasted}
 use borrow.Author.Needs.{needs}
-use Rattle.reader.proofs.steps.words_of.Statement.{statement}
-use Rattle.reader.proofs.steps.words_of.Tie as tie
+use Rattle.carry.proofs.words_of.Statement.{statement}
+use Rattle.carry.proofs.words_of.Tie as tie
 
 returns : tie.Need-returns
 returns c =

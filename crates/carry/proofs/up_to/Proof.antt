@@ -1,7 +1,7 @@
 -- `up_to` meets its contract: it is the smaller. Assumes nothing.
 use borrow.Author.Tests.{le-leb, lt-leb}
-use Rattle.reader.proofs.steps.up_to.Statement.{statement}
-use Rattle.reader.proofs.steps.up_to.Tie as tie
+use Rattle.carry.proofs.up_to.Statement.{statement}
+use Rattle.carry.proofs.up_to.Tie as tie
 
 returns : tie.Need-returns
 returns c = rw (le-leb _ _ (c .if1 .taken))

@@ -10,7 +10,7 @@ use lib.ListN.{length, take, drop, replicate, length-replicate, take-append-drop
 use lib.Seq.{paste, paste-zero, take-append-le, take-take, length-paste, length-paste-head, length-take-le}
 use borrow.Author.Tests.{le-leb, leb-true, leb-false}
 use Rattle.words.specs.Checks.{pick}
-use Rattle.reader.specs.Carry.{upTo, carryIn}
+use Rattle.carry.specs.Carry.{upTo, carryIn}
 
 -- ## How much a carry has
 

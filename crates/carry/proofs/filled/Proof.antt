@@ -5,8 +5,8 @@ use native.Mathlib.Numerals.{add-one}
 use native.Mathlib.Omega.{arith}
 use lib.ListN.{length}
 use lib.Seq.{paste, paste-zero, paste-suc}
-use Rattle.reader.proofs.steps.filled.Statement.{statement}
-use Rattle.reader.proofs.steps.filled.Tie as tie
+use Rattle.carry.proofs.filled.Statement.{statement}
+use Rattle.carry.proofs.filled.Tie as tie
 
 abbrev Inv-loop : tie.InvT-loop
 Inv-loop have piece n c₀ i₀ c i = (c ≡ paste c₀ have piece i) × (i ≤ n)

@@ -2,10 +2,10 @@
 use mathlib.Core.Path.{_≡_, refl, sym, _∙_}
 use borrow.Author.Tests.{eq-eqb, ne-eqb}
 use Rattle.rules.specs.Rules.{sizeOf}
-use Rattle.reader.proofs.Sizes.{size-48}
+use Rattle.carry.proofs.Sizes.{size-48}
 use borrow.Author.Needs.{needs}
-use Rattle.reader.proofs.steps.hear.Statement.{statement}
-use Rattle.reader.proofs.steps.hear.Tie as tie
+use Rattle.carry.proofs.hear.Statement.{statement}
+use Rattle.carry.proofs.hear.Tie as tie
 
 returns : tie.Need-returns
 returns c =

@@ -15,7 +15,7 @@ use Rattle.words.specs.Record.{wordsAt, footerAt}
 use Rattle.words.proofs.Parts.{words-front, footer-front}
 use Rattle.rules.specs.Rules.{sizeOf, faultOf, footerFault, wordsIn, faultIn}
 use Rattle.rules.specs.declared.Place.{Place}
-use Rattle.reader.proofs.Sizes.{size-least}
+use Rattle.carry.proofs.Sizes.{size-least}
 
 -- ## Bytes put into the carry
 
