@@ -7,7 +7,7 @@ use lib.Dec.{ltb}
 use lib.ListN.{length, drop, getD}
 use Rattle.words.specs.Checks.{pick}
 use Rattle.words.specs.Le.{puts, long}
-use Rattle.rules.specs.Offers.{rowOf}
+use Rattle.rules.specs.Kinds.{rowOf}
 use Rattle.rules.specs.Verdicts.{refusalAt}
 use Rattle.rules.specs.declared.Record.{Record}
 use Rattle.reader.specs.Stream.{stepOf}

@@ -9,7 +9,7 @@ use Rattle.words.specs.Checks.{pick}
 use Rattle.words.specs.Le.{Bytes}
 use Rattle.words.specs.Record.{IsHash, wordsAt, sameHash}
 use Rattle.words.specs.declared.Words.{Words}
-use Rattle.rules.specs.Offers.{sameKind}
+use Rattle.rules.specs.Kinds.{sameKind}
 use Rattle.rules.specs.declared.Record.{Record}
 use Rattle.rules.specs.declared.Position.{Position}
 use Rattle.rules.specs.declared.BlockNumber.{BlockNumber}

@@ -9,7 +9,7 @@ use lib.ListN.{length}
 use Rattle.words.specs.Checks.{pick}
 use Rattle.words.specs.Le.{Bytes}
 use Rattle.words.specs.Record.{IsHash, hashAt, sameHash}
-use Rattle.rules.specs.Offers.{sameKind}
+use Rattle.rules.specs.Kinds.{sameKind}
 use Rattle.rules.specs.declared.Record.{Record}
 use Rattle.rules.specs.declared.Position.{Position}
 use Rattle.rules.specs.declared.BlockNumber.{BlockNumber}

@@ -6,7 +6,7 @@ use mathlib.Core.List.{List}
 use lib.Dec.{eqb, ltb}
 use Rattle.words.specs.Checks.{pick}
 use Rattle.words.specs.Le.{low}
-use Rattle.rules.specs.Offers.{rowOf, notDue}
+use Rattle.rules.specs.Kinds.{rowOf, notDue}
 use Rattle.rules.specs.Verdicts.{numbersOf}
 use Rattle.rules.specs.declared.Totals.{Totals}
 use Rattle.rules.specs.declared.Place.{Place}
@@ -15,9 +15,9 @@ use Rattle.rules.specs.declared.Refusal.{Refusal}
 use Rattle.rules.specs.declared.Verdict.{Verdict}
 use Rattle.rules.specs.declared.Due.{Due}
 use Rattle.rules.specs.declared.Due.the-variants as due
-use Rattle.rules.specs.declared.Offer.{Offer}
-use Rattle.rules.specs.declared.Fields.{Fields}
-use Rattle.rules.specs.declared.Fields.the-variants as fields
+use Rattle.offers.specs.declared.Offer.{Offer}
+use Rattle.offers.specs.declared.Fields.{Fields}
+use Rattle.offers.specs.declared.Fields.the-variants as fields
 use Rattle.beside.specs.declared.Bare.{Bare}
 use Rattle.beside.specs.declared.Call.{Call}
 use Rattle.beside.specs.declared.Read.{Read}

@@ -1,4 +1,4 @@
 pub mod Rules
 pub mod Held
 pub mod Verdicts
-pub mod Offers
+pub mod Kinds

@@ -1,5 +1,6 @@
 // A shard written again: each record that a reader hands out is offered to a writer, and its bytes are compared with those that were read.
 use crate::pieces::same_verdict;
+use offers::Offer;
 use reader::Reader;
 use reader::Said;
 use rules::Record;
@@ -53,7 +54,7 @@ impl Copying {
     fn written(self, reader: Reader, found: Record, bytes: &[u8], taken: usize) -> Copying {
         let mut buf = [0u8; 200];
         let writer = self.writer;
-        let put = writer.put(found.offer(), &mut buf);
+        let put = writer.put(Offer::of(found), &mut buf);
         let next = put.writer;
         let answer = put.answer;
         let size = match answer {

@@ -15,13 +15,14 @@ use Rattle.words.proofs.Zeros.{and-left, and-right}
 use Rattle.words.proofs.Records.{hash-same, true-ones, words-same}
 use Rattle.rules.specs.Rules.{sizeBy, sizeOf, faultBy, faultOf, fileHeadFault, xorbHeadFault, bookendFault, noOtherBit, kindOf, recordOf}
 use Rattle.rules.specs.Rules as rules
-use Rattle.rules.specs.Offers.{kindBy, kindOffered, wordsBy, wordsOf, fieldsBy, fieldsOf, offerOf, among, isDue}
+use Rattle.rules.specs.Kinds.{among, isDue}
 use Rattle.rules.specs.declared.Place.{Place}
 use Rattle.rules.specs.declared.Kind.{Kind}
 use Rattle.rules.specs.declared.Kind.the-variants as kind
 use Rattle.rules.specs.declared.Due.{Due}
 use Rattle.rules.specs.declared.Due.the-variants as due
-use Rattle.rules.specs.declared.Offer.{Offer}
+use Rattle.offers.specs.Offers.{kindBy, kindOffered, wordsBy, wordsOf, fieldsBy, fieldsOf, offerOf}
+use Rattle.offers.specs.declared.Offer.{Offer}
 use Rattle.layout.proofs.Checks.{passed, tail-zero}
 use Rattle.writer.specs.Write.{isHead, isFooter, bytesOf, answerOf}
 use Rattle.writer.specs.declared.Writer.{Writer}

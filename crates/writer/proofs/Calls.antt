@@ -17,10 +17,11 @@ use Rattle.words.proofs.Stores.{puts-eq}
 use Rattle.words.proofs.Records.{length-words, length-footer}
 use Rattle.rules.specs.Rules.{sizeOf, recordOf, start}
 use Rattle.rules.specs.Verdicts.{refused}
-use Rattle.rules.specs.Offers.{kindOffered, wordsOf, isDue}
+use Rattle.rules.specs.Kinds.{isDue}
 use Rattle.rules.specs.declared.Place.{Place}
 use Rattle.rules.specs.declared.Refusal.{Refusal}
-use Rattle.rules.specs.declared.Offer.{Offer}
+use Rattle.offers.specs.Offers.{kindOffered, wordsOf}
+use Rattle.offers.specs.declared.Offer.{Offer}
 use Rattle.writer.specs.Write.{isHead, isFooter, refuses, checked, bytesOf, answerOf, nextBy, bufferBy, writtenOf, bufferOf, fresh}
 use Rattle.writer.specs.Writings.{Call, Writing, once, written}
 use Rattle.writer.specs.declared.Writer.{Writer}

@@ -12,14 +12,15 @@ use Rattle.words.specs.Checks.{pick}
 use Rattle.words.specs.Record.{IsHash, isOnes, Whole, ones}
 use Rattle.rules.specs.Rules.{sizeBy}
 use Rattle.rules.specs.Rules as rules
-use Rattle.rules.specs.Offers.{kindBy, wordsBy, wordsOf, fieldsBy, RangesBy, InRange, rowOf, sameKind, among, isDue}
+use Rattle.rules.specs.Kinds.{rowOf, sameKind, among, isDue}
 use Rattle.rules.specs.declared.Kind.{Kind}
 use Rattle.rules.specs.declared.Kind.the-variants as kind
 use Rattle.rules.specs.declared.Due.{Due}
 use Rattle.rules.specs.declared.Due.the-variants as due
-use Rattle.rules.specs.declared.Offer.{Offer}
-use Rattle.rules.specs.declared.Fields.{Fields}
-use Rattle.rules.specs.declared.Fields.the-variants.{Header, FileHead, Segment, Verification, Metadata, XorbHead, Chunk, SectionEnd, Footer}
+use Rattle.offers.specs.Offers.{kindBy, wordsBy, wordsOf, fieldsBy, RangesBy, InRange}
+use Rattle.offers.specs.declared.Offer.{Offer}
+use Rattle.offers.specs.declared.Fields.{Fields}
+use Rattle.offers.specs.declared.Fields.the-variants.{Header, FileHead, Segment, Verification, Metadata, XorbHead, Chunk, SectionEnd, Footer}
 use Rattle.layout.proofs.FileEntries.{plain-whole}
 use Rattle.words.proofs.Records.{ones-is}
 use Rattle.writer.specs.Write.{isHead, isFooter}

@@ -16,10 +16,10 @@ use Rattle.cut.specs.Format.{at, run}
 use Rattle.cut.proofs.Runs.{run-nil}
 use Rattle.rules.specs.Rules.{nextOf, start}
 use Rattle.rules.specs.Verdicts.{refused, refusalAt, verdictAt}
-use Rattle.rules.specs.Offers.{kindOffered, wordsOf, InRange}
 use Rattle.rules.specs.declared.Place.{Place}
-use Rattle.rules.specs.declared.Offer.{Offer}
 use Rattle.rules.specs.declared.Due.the-variants as due
+use Rattle.offers.specs.Offers.{kindOffered, wordsOf, InRange}
+use Rattle.offers.specs.declared.Offer.{Offer}
 use Rattle.layout.specs.Scan.{format, foundOf, foundIn}
 use Rattle.layout.specs.Reach.{Reached}
 use Rattle.layout.proofs.Reach.{reached-start, reached-next, exact}

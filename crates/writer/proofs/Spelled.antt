@@ -15,12 +15,13 @@ use Rattle.words.proofs.Records.{words-spell, spell-words, words-whole, length-
 use Rattle.cut.specs.Format.{good, at, run, settle, thenRun}
 use Rattle.cut.proofs.Runs.{run-append, run-full}
 use Rattle.rules.specs.Rules.{sizeBy, sizeOf, faultBy, faultOf, footerFault, nextOf, recordOf}
-use Rattle.rules.specs.Offers.{kindOffered, wordsOf, isDue}
+use Rattle.rules.specs.Kinds.{isDue}
 use Rattle.rules.specs.declared.Place.{Place}
 use Rattle.rules.specs.declared.Record.{Record}
 use Rattle.rules.specs.declared.Due.{Due}
 use Rattle.rules.specs.declared.Due.the-variants as due
-use Rattle.rules.specs.declared.Offer.{Offer}
+use Rattle.offers.specs.Offers.{kindOffered, wordsOf}
+use Rattle.offers.specs.declared.Offer.{Offer}
 use Rattle.layout.specs.Scan.{judged, format}
 use Rattle.layout.specs.Reach.{Reached}
 use Rattle.layout.proofs.Judged.{Class, a-row, a-foot, no-record, class, judge-row, judge-foot, settled-good}

@@ -11,12 +11,12 @@ use Rattle.words.proofs.Records.{hash-is}
 use Rattle.cut.specs.Fate.{Reads, none, more}
 use Rattle.rules.specs.Rules.{sizeOf, recordOf, start}
 use Rattle.rules.specs.Verdicts.{verdictBy, verdictAt}
-use Rattle.rules.specs.Offers.{offerOf}
 use Rattle.rules.specs.declared.Place.{Place}
 use Rattle.rules.specs.declared.Record.{Record}
 use Rattle.rules.specs.declared.Verdict.{Verdict}
 use Rattle.rules.specs.declared.Due.{Due}
-use Rattle.rules.specs.declared.Offer.{Offer}
+use Rattle.offers.specs.Offers.{offerOf}
+use Rattle.offers.specs.declared.Offer.{Offer}
 use Rattle.layout.specs.Scan.{format, Found, foundIn, IsAccepted}
 use Rattle.layout.specs.Refusal.{Ends, early, done, over, faulty}
 use Rattle.layout.specs.Reach.{Reached}

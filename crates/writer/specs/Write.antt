@@ -10,11 +10,12 @@ use Rattle.words.specs.declared.Words.{Words}
 use Rattle.rules.specs.Rules.{sizeOf, faultOf, nextOf, start}
 use Rattle.rules.specs.Held.{held}
 use Rattle.rules.specs.Verdicts.{refused, refusalAt, verdictAt}
-use Rattle.rules.specs.Offers.{kindOffered, wordsOf, sameKind, isDue, notDue}
+use Rattle.rules.specs.Kinds.{sameKind, isDue, notDue}
 use Rattle.rules.specs.declared.Verdict.{Verdict}
 use Rattle.rules.specs.declared.Kind.{Kind}
 use Rattle.rules.specs.declared.Kind.the-variants as kind
-use Rattle.rules.specs.declared.Offer.{Offer}
+use Rattle.offers.specs.Offers.{kindOffered, wordsOf}
+use Rattle.offers.specs.declared.Offer.{Offer}
 use Rattle.writer.specs.declared.Writer.{Writer}
 use Rattle.writer.specs.declared.Written.{Written}
 use Rattle.writer.specs.declared.Answer.{Answer}

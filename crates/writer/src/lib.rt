@@ -1,6 +1,6 @@
-// The writer: one record into a lent buffer. What is offered is said in the rules' specs/Offers, what a call does in specs/Write.
+// The writer: one record into a lent buffer. What is offered is said in specs/Offers of crate `offers`, what a call does in specs/Write.
+use offers::Offer;
 use rules::Kind;
-use rules::Offer;
 use rules::Place;
 use rules::Refusal;
 use rules::Verdict;
@@ -16,7 +16,7 @@ ghost use lib.ListN.{length};
 ghost use Rattle.words.specs.Checks.{pick, _unless_then_};
 ghost use Rattle.words.specs.Le.{puts};
 ghost use Rattle.words.specs.Record.{isOnes};
-ghost use Rattle.rules.specs.Offers.{kindOffered, wordsOf};
+ghost use Rattle.offers.specs.Offers.{kindOffered, wordsOf};
 ghost use Rattle.writer.specs.Write.{isHead, isFooter, bytesOf, refuses, answerOf, writtenBy, writtenOf, bufferOf, fresh, verdictOf};
 ghost use Rattle.writer.specs.declared.Answer.the-variants as answer;
 

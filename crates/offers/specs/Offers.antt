@@ -1,20 +1,16 @@
 -- What is offered to a writer, and the record that it makes of it: the tag, the versions, reserved bytes and bookends are the writer's own.
 -- What a record offers again is beside it, so that what a reader hands out can be offered as it stands.
 use Prim.Native.Nat.{ℕ, _^_, _<_}
-use mathlib.Core.Bool.{Bool, false, _||_}
-use mathlib.Core.List.{List, [], _∷_}
-use lib.Dec.{eqb}
+use mathlib.Core.List.{List}
 use Rattle.words.specs.Le.{long, low, high}
 use Rattle.words.specs.Record.{IsHash, ones}
 use Rattle.words.specs.declared.Words.{Words}
 use Rattle.rules.specs.declared.Record.{Record}
 use Rattle.rules.specs.declared.Kind.{Kind}
 use Rattle.rules.specs.declared.Kind.the-variants as kind
-use Rattle.rules.specs.declared.Due.{Due}
-use Rattle.rules.specs.declared.Due.the-variants as due
-use Rattle.rules.specs.declared.Offer.{Offer}
-use Rattle.rules.specs.declared.Fields.{Fields}
-use Rattle.rules.specs.declared.Fields.the-variants.{Header, FileHead, Segment, Verification, Metadata, XorbHead, Chunk, SectionEnd, Footer}
+use Rattle.offers.specs.declared.Offer.{Offer}
+use Rattle.offers.specs.declared.Fields.{Fields}
+use Rattle.offers.specs.declared.Fields.the-variants.{Header, FileHead, Segment, Verification, Metadata, XorbHead, Chunk, SectionEnd, Footer}
 
 -- ## What an offer asks for
 
@@ -91,52 +87,3 @@ fieldsOf r = fieldsBy (r .kind) (r .words)
 
 unfoldable pub offerOf : Record → Offer
 offerOf r = record { hash = r .words .hash; fields = fieldsOf r }
-
--- ## What is due
-
-abbrev pub kindsDue : Due → List Kind
-kindsDue due.Header = kind.Header ∷ []
-kindsDue due.FileHead = kind.FileHead ∷ kind.Bookend ∷ []
-kindsDue (due.Segment left) = kind.Segment ∷ []
-kindsDue (due.Verification left) = kind.Verification ∷ []
-kindsDue due.Metadata = kind.Metadata ∷ []
-kindsDue due.XorbHead = kind.XorbHead ∷ kind.Bookend ∷ []
-kindsDue (due.Chunk left sum total) = kind.Chunk ∷ []
-kindsDue due.Footer = kind.Footer ∷ []
-kindsDue due.End = []
-kindsDue (due.Refused number) = []
-
--- the rows of the paper's table, by number
-abbrev pub rowOf : Kind → ℕ
-rowOf kind.Header = 0
-rowOf kind.FileHead = 1
-rowOf kind.Segment = 2
-rowOf kind.Verification = 3
-rowOf kind.Metadata = 4
-rowOf kind.XorbHead = 5
-rowOf kind.Chunk = 6
-rowOf kind.Bookend = 7
-rowOf kind.Footer = 8
-
-abbrev pub sameKind : Kind → Kind → Bool
-sameKind k l = eqb (rowOf k) (rowOf l)
-
-abbrev pub among : Kind → List Kind → Bool
-among k [] = false
-among k (l ∷ ls) = sameKind k l || among k ls
-
-abbrev pub isDue : Due → Kind → Bool
-isDue d k = among k (kindsDue d)
-
--- the number where a record is not due: 16, and to a writer begun with a bad tag 2 for everything
-abbrev pub notDue : Due → ℕ
-notDue due.Header = 16
-notDue due.FileHead = 16
-notDue (due.Segment left) = 16
-notDue (due.Verification left) = 16
-notDue due.Metadata = 16
-notDue due.XorbHead = 16
-notDue (due.Chunk left sum total) = 16
-notDue due.Footer = 16
-notDue due.End = 16
-notDue (due.Refused number) = number
