@@ -7,8 +7,8 @@ use native.Mathlib.Omega.{arith}
 use Rattle.rules.specs.declared.Place.{Place}
 use Rattle.rules.specs.declared.Due.{Due}
 use Rattle.rules.specs.declared.Due.the-variants as due
-use Rattle.offers.specs.declared.Fields.{Fields}
-use Rattle.offers.specs.declared.Fields.the-variants as fields
+use Rattle.writer.specs.declared.Fields.{Fields}
+use Rattle.writer.specs.declared.Fields.the-variants as fields
 use Rattle.words.specs.Le.{low}
 use Rattle.beside.specs.declared.Bare.{Bare}
 use Rattle.writer.specs.declared.Writer.{Writer}

@@ -7,7 +7,7 @@ use Prim.Native.Nat.{ℕ}
 use lib.Dec.{ltb}
 use lib.ListN.{length}
 use Rattle.words.specs.Checks.{pick}
-use Rattle.offers.specs.Offers.{InRange}
+use Rattle.writer.specs.Offers.{InRange}
 use Rattle.writer.specs.Write.{fresh, writtenOf}
 use Rattle.writer.specs.Writings.{Call, InRanges, once, written}
 use Rattle.writer.specs.declared.Writer.{Writer}

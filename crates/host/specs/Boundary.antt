@@ -15,9 +15,9 @@ use Rattle.rules.specs.declared.Refusal.{Refusal}
 use Rattle.rules.specs.declared.Verdict.{Verdict}
 use Rattle.rules.specs.declared.Due.{Due}
 use Rattle.rules.specs.declared.Due.the-variants as due
-use Rattle.offers.specs.declared.Offer.{Offer}
-use Rattle.offers.specs.declared.Fields.{Fields}
-use Rattle.offers.specs.declared.Fields.the-variants as fields
+use Rattle.writer.specs.declared.Offer.{Offer}
+use Rattle.writer.specs.declared.Fields.{Fields}
+use Rattle.writer.specs.declared.Fields.the-variants as fields
 use Rattle.beside.specs.declared.Bare.{Bare}
 use Rattle.beside.specs.declared.Call.{Call}
 use Rattle.beside.specs.declared.Read.{Read}

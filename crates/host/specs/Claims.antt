@@ -5,8 +5,8 @@ use Prim.Native.Nat.{ℕ, _<_}
 use lib.ListN.{length}
 use Rattle.words.specs.Le.{Bytes}
 use Rattle.rules.specs.declared.Place.{Place}
-use Rattle.offers.specs.Offers.{InRange}
-use Rattle.offers.specs.declared.Offer.{Offer}
+use Rattle.writer.specs.Offers.{InRange}
+use Rattle.writer.specs.declared.Offer.{Offer}
 use Rattle.reader.specs.Stream.{fresh}
 use Rattle.beside.specs.Beside.{lend, bareOf, callFor, carryFor}
 use Rattle.beside.specs.Rows.{readWith}

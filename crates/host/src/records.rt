@@ -4,10 +4,10 @@ use crate::RecordState;
 use crate::VerdictState;
 use crate::places::mark_of;
 use crate::places::totals_out;
-use offers::Fields;
-use offers::Offer;
 use rules::Record;
 use rules::Verdict;
+use writer::Fields;
+use writer::Offer;
 ghost use mathlib.Core.Path.{_≡_};
 ghost use Rattle.host.specs.Boundary.{recordOut, fieldsIn, offerIn, verdictOut};
 

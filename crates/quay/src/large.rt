@@ -5,12 +5,12 @@ use crate::shard::TAG;
 use crate::told::again_said;
 use crate::told::case;
 use crate::told::verdict_said;
-use offers::Fields;
-use offers::Offer;
 use shardline::text::number;
 use shardline::text::say;
 use trial::again::Copying;
 use writer::Answer;
+use writer::Fields;
+use writer::Offer;
 use writer::Writer;
 
 struct Making {

@@ -1,12 +1,12 @@
 // A shard written again: each record that a reader hands out is offered to a writer, and its bytes are compared with those that were read.
 use crate::pieces::same_verdict;
-use offers::Offer;
 use reader::Reader;
 use reader::Said;
 use rules::Record;
 use rules::Verdict;
 use std::num::wrapping_add_u64;
 use writer::Answer;
+use writer::Offer;
 use writer::Writer;
 
 // A reader and the writer behind it; `same` while what is written is what was read, which is so for the first `length` bytes.

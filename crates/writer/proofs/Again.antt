@@ -21,8 +21,8 @@ use Rattle.rules.specs.declared.Kind.{Kind}
 use Rattle.rules.specs.declared.Kind.the-variants as kind
 use Rattle.rules.specs.declared.Due.{Due}
 use Rattle.rules.specs.declared.Due.the-variants as due
-use Rattle.offers.specs.Offers.{kindBy, kindOffered, wordsBy, wordsOf, fieldsBy, fieldsOf, offerOf}
-use Rattle.offers.specs.declared.Offer.{Offer}
+use Rattle.writer.specs.Offers.{kindBy, kindOffered, wordsBy, wordsOf, fieldsBy, fieldsOf, offerOf}
+use Rattle.writer.specs.declared.Offer.{Offer}
 use Rattle.layout.proofs.Checks.{passed, tail-zero}
 use Rattle.writer.specs.Write.{isHead, isFooter, bytesOf, answerOf}
 use Rattle.writer.specs.declared.Writer.{Writer}

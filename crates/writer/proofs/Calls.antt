@@ -20,8 +20,8 @@ use Rattle.rules.specs.Verdicts.{refused}
 use Rattle.rules.specs.Kinds.{isDue}
 use Rattle.rules.specs.declared.Place.{Place}
 use Rattle.rules.specs.declared.Refusal.{Refusal}
-use Rattle.offers.specs.Offers.{kindOffered, wordsOf}
-use Rattle.offers.specs.declared.Offer.{Offer}
+use Rattle.writer.specs.Offers.{kindOffered, wordsOf}
+use Rattle.writer.specs.declared.Offer.{Offer}
 use Rattle.writer.specs.Write.{isHead, isFooter, refuses, checked, bytesOf, answerOf, nextBy, bufferBy, writtenOf, bufferOf, fresh}
 use Rattle.writer.specs.Writings.{Call, Writing, once, written}
 use Rattle.writer.specs.declared.Writer.{Writer}

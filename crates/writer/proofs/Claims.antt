@@ -9,7 +9,7 @@ use Rattle.words.proofs.Stores.{length-puts}
 use Rattle.rules.specs.Rules.{kindOf, recordOf}
 use Rattle.rules.specs.Held.{held}
 use Rattle.rules.specs.declared.Kind.{Kind}
-use Rattle.offers.specs.Offers.{wordsOf, fieldsBy, fieldsOf, offerOf}
+use Rattle.writer.specs.Offers.{wordsOf, fieldsBy, fieldsOf, offerOf}
 use Rattle.layout.proofs.Reach.{exact}
 use Rattle.writer.specs.Write.{answerOf, bytesOf, writtenOf, bufferOf, nextBy, fresh}
 use Rattle.writer.specs.Writings.{Writing, written, RefusedChangesNothing, KeepsLength, NeverWraps, OffersBack}

@@ -17,10 +17,10 @@ use Rattle.rules.specs.declared.Kind.{Kind}
 use Rattle.rules.specs.declared.Kind.the-variants as kind
 use Rattle.rules.specs.declared.Due.{Due}
 use Rattle.rules.specs.declared.Due.the-variants as due
-use Rattle.offers.specs.Offers.{kindBy, wordsBy, wordsOf, fieldsBy, RangesBy, InRange}
-use Rattle.offers.specs.declared.Offer.{Offer}
-use Rattle.offers.specs.declared.Fields.{Fields}
-use Rattle.offers.specs.declared.Fields.the-variants.{Header, FileHead, Segment, Verification, Metadata, XorbHead, Chunk, SectionEnd, Footer}
+use Rattle.writer.specs.Offers.{kindBy, wordsBy, wordsOf, fieldsBy, RangesBy, InRange}
+use Rattle.writer.specs.declared.Offer.{Offer}
+use Rattle.writer.specs.declared.Fields.{Fields}
+use Rattle.writer.specs.declared.Fields.the-variants.{Header, FileHead, Segment, Verification, Metadata, XorbHead, Chunk, SectionEnd, Footer}
 use Rattle.layout.proofs.FileEntries.{plain-whole}
 use Rattle.words.proofs.Records.{ones-is}
 use Rattle.writer.specs.Write.{isHead, isFooter}

@@ -18,8 +18,8 @@ use Rattle.rules.specs.Rules.{nextOf, start}
 use Rattle.rules.specs.Verdicts.{refused, refusalAt, verdictAt}
 use Rattle.rules.specs.declared.Place.{Place}
 use Rattle.rules.specs.declared.Due.the-variants as due
-use Rattle.offers.specs.Offers.{kindOffered, wordsOf, InRange}
-use Rattle.offers.specs.declared.Offer.{Offer}
+use Rattle.writer.specs.Offers.{kindOffered, wordsOf, InRange}
+use Rattle.writer.specs.declared.Offer.{Offer}
 use Rattle.layout.specs.Scan.{format, foundOf, foundIn}
 use Rattle.layout.specs.Reach.{Reached}
 use Rattle.layout.proofs.Reach.{reached-start, reached-next, exact}

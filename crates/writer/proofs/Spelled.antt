@@ -20,8 +20,8 @@ use Rattle.rules.specs.declared.Place.{Place}
 use Rattle.rules.specs.declared.Record.{Record}
 use Rattle.rules.specs.declared.Due.{Due}
 use Rattle.rules.specs.declared.Due.the-variants as due
-use Rattle.offers.specs.Offers.{kindOffered, wordsOf}
-use Rattle.offers.specs.declared.Offer.{Offer}
+use Rattle.writer.specs.Offers.{kindOffered, wordsOf}
+use Rattle.writer.specs.declared.Offer.{Offer}
 use Rattle.layout.specs.Scan.{judged, format}
 use Rattle.layout.specs.Reach.{Reached}
 use Rattle.layout.proofs.Judged.{Class, a-row, a-foot, no-record, class, judge-row, judge-foot, settled-good}

@@ -15,8 +15,8 @@ use Rattle.rules.specs.declared.Place.{Place}
 use Rattle.rules.specs.declared.Record.{Record}
 use Rattle.rules.specs.declared.Verdict.{Verdict}
 use Rattle.rules.specs.declared.Due.{Due}
-use Rattle.offers.specs.Offers.{offerOf}
-use Rattle.offers.specs.declared.Offer.{Offer}
+use Rattle.writer.specs.Offers.{offerOf}
+use Rattle.writer.specs.declared.Offer.{Offer}
 use Rattle.layout.specs.Scan.{format, Found, foundIn, IsAccepted}
 use Rattle.layout.specs.Refusal.{Ends, early, done, over, faulty}
 use Rattle.layout.specs.Reach.{Reached}

@@ -1,2 +1,3 @@
+pub mod Offers
 pub mod Write
 pub mod Writings

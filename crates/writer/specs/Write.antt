@@ -14,8 +14,8 @@ use Rattle.rules.specs.Kinds.{sameKind, isDue, notDue}
 use Rattle.rules.specs.declared.Verdict.{Verdict}
 use Rattle.rules.specs.declared.Kind.{Kind}
 use Rattle.rules.specs.declared.Kind.the-variants as kind
-use Rattle.offers.specs.Offers.{kindOffered, wordsOf}
-use Rattle.offers.specs.declared.Offer.{Offer}
+use Rattle.writer.specs.Offers.{kindOffered, wordsOf}
+use Rattle.writer.specs.declared.Offer.{Offer}
 use Rattle.writer.specs.declared.Writer.{Writer}
 use Rattle.writer.specs.declared.Written.{Written}
 use Rattle.writer.specs.declared.Answer.{Answer}

@@ -9,8 +9,8 @@ use Rattle.rules.specs.Rules.{recordOf}
 use Rattle.rules.specs.Held.{held}
 use Rattle.rules.specs.declared.Record.{Record}
 use Rattle.rules.specs.declared.Refusal.{Refusal}
-use Rattle.offers.specs.Offers.{wordsOf, offerOf, InRange}
-use Rattle.offers.specs.declared.Offer.{Offer}
+use Rattle.writer.specs.Offers.{wordsOf, offerOf, InRange}
+use Rattle.writer.specs.declared.Offer.{Offer}
 use Rattle.layout.specs.Layout.{Each}
 use Rattle.layout.specs.Scan.{foundIn, IsAccepted}
 use Rattle.writer.specs.Write.{isFooter, answerOf, writtenOf, bufferOf, fresh, verdictOf}

@@ -1,8 +1,8 @@
 -- `of` meets its contract: the hash and the fields. Assumes nothing.
-use Rattle.offers.specs.Offers.{offerOf}
+use Rattle.writer.specs.Offers.{offerOf}
 use borrow.Author.Needs.{needs}
-use Rattle.offers.proofs.Offer.of.Statement.{statement}
-use Rattle.offers.proofs.Offer.of.Tie as tie
+use Rattle.writer.proofs.Offer.of.Statement.{statement}
+use Rattle.writer.proofs.Offer.of.Tie as tie
 
 returns : tie.Need-returns
 unfolding offerOf

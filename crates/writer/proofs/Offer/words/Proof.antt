@@ -1,8 +1,8 @@
 -- `words` meets its contract: they go by the fields. Assumes nothing.
-use Rattle.offers.specs.Offers.{wordsOf}
+use Rattle.writer.specs.Offers.{wordsOf}
 use borrow.Author.Needs.{needs}
-use Rattle.offers.proofs.Offer.words.Statement.{statement}
-use Rattle.offers.proofs.Offer.words.Tie as tie
+use Rattle.writer.proofs.Offer.words.Statement.{statement}
+use Rattle.writer.proofs.Offer.words.Tie as tie
 
 returns : tie.Need-returns
 unfolding wordsOf

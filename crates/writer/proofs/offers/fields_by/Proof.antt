@@ -1,7 +1,7 @@
 -- `fields_by` meets its contract: each kind has its row of the paper's table. Assumes nothing.
 use borrow.Author.Needs.{needs}
-use Rattle.offers.proofs.again.fields_by.Statement.{statement}
-use Rattle.offers.proofs.again.fields_by.Tie as tie
+use Rattle.writer.proofs.offers.fields_by.Statement.{statement}
+use Rattle.writer.proofs.offers.fields_by.Tie as tie
 
 returns : tie.Need-returns
 returns c = rw (c .joined .ensures, c .before .enum-told .given .1)

@@ -1,7 +1,7 @@
 -- `words` meets its contract: each kind has its row of the paper's table. Assumes nothing.
 use borrow.Author.Needs.{needs}
-use Rattle.offers.proofs.Fields.words.Statement.{statement}
-use Rattle.offers.proofs.Fields.words.Tie as tie
+use Rattle.writer.proofs.Fields.words.Statement.{statement}
+use Rattle.writer.proofs.Fields.words.Tie as tie
 
 returns : tie.Need-returns
 returns c =

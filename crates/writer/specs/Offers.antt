@@ -8,9 +8,9 @@ use Rattle.words.specs.declared.Words.{Words}
 use Rattle.rules.specs.declared.Record.{Record}
 use Rattle.rules.specs.declared.Kind.{Kind}
 use Rattle.rules.specs.declared.Kind.the-variants as kind
-use Rattle.offers.specs.declared.Offer.{Offer}
-use Rattle.offers.specs.declared.Fields.{Fields}
-use Rattle.offers.specs.declared.Fields.the-variants.{Header, FileHead, Segment, Verification, Metadata, XorbHead, Chunk, SectionEnd, Footer}
+use Rattle.writer.specs.declared.Offer.{Offer}
+use Rattle.writer.specs.declared.Fields.{Fields}
+use Rattle.writer.specs.declared.Fields.the-variants.{Header, FileHead, Segment, Verification, Metadata, XorbHead, Chunk, SectionEnd, Footer}
 
 -- ## What an offer asks for
 

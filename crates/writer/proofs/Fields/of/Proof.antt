@@ -1,8 +1,8 @@
 -- `of` meets its contract: the fields go by the kind. Assumes nothing.
-use Rattle.offers.specs.Offers.{fieldsOf}
+use Rattle.writer.specs.Offers.{fieldsOf}
 use borrow.Author.Needs.{needs}
-use Rattle.offers.proofs.Fields.of.Statement.{statement}
-use Rattle.offers.proofs.Fields.of.Tie as tie
+use Rattle.writer.proofs.Fields.of.Statement.{statement}
+use Rattle.writer.proofs.Fields.of.Tie as tie
 
 returns : tie.Need-returns
 unfolding fieldsOf

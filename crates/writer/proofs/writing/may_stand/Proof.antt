@@ -1,7 +1,7 @@
 -- `may_stand` meets its contract: a head is one of two kinds. Assumes nothing.
 use borrow.Author.Needs.{needs}
-use Rattle.writer.proofs.may_stand.Statement.{statement}
-use Rattle.writer.proofs.may_stand.Tie as tie
+use Rattle.writer.proofs.writing.may_stand.Statement.{statement}
+use Rattle.writer.proofs.writing.may_stand.Tie as tie
 
 returns : tie.Need-returns
 returns c = rw (c .is-ones .ensures, c .before .is2 .ensures, c .before .before .is .ensures)
