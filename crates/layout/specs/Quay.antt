@@ -20,30 +20,30 @@ upFrom n zero = []
 upFrom n (suc k) = n ∷ upFrom (n + 1) k
 
 -- the tag is the bytes 1 to 32
-abbrev tag : List ℕ
+abbrev pub tag : List ℕ
 tag = upFrom 1 32
 
 -- 48 bytes: a hash and four numbers
-abbrev row : List ℕ → ℕ → ℕ → ℕ → ℕ → List ℕ
+abbrev pub row : List ℕ → ℕ → ℕ → ℕ → ℕ → List ℕ
 row h a b c d = spellWords (record { hash = h; a = a; b = b; c = c; d = d })
 
-abbrev header : ℕ → List ℕ
+abbrev pub header : ℕ → List ℕ
 header footerSize = tag ++ spell 8 2 ++ spell 8 footerSize
 
-abbrev bookend : List ℕ
+abbrev pub bookend : List ℕ
 bookend = replicate 32 255 ++ replicate 16 0
 
-abbrev footer : ℕ → ℕ → ℕ → List ℕ
+abbrev pub footer : ℕ → ℕ → ℕ → List ℕ
 footer files xorbs here = spell 8 1 ++ spell 8 files ++ spell 8 xorbs ++ replicate 48 0 ++ replicate 32 0 ++ spell 8 0 ++ spell 8 0 ++ replicate 72 0 ++ spell 8 here
 
 -- a hash
-abbrev hash : List ℕ
+abbrev pub hash : List ℕ
 hash = 1 ∷ 2 ∷ 3 ∷ 4 ∷ []
 
-abbrev accepted : ℕ → Totals → Bool → Verdict
+abbrev pub accepted : ℕ → Totals → Bool → Verdict
 accepted length totals hasFooter = Accepted (record { length = length; totals = totals; footer = hasFooter })
 
-abbrev refused : ℕ → ℕ → Verdict
+abbrev pub refused : ℕ → ℕ → Verdict
 refused number position = Refused (record { at = record { 0 = position }; number = number })
 
 pub record Example : Type 0 where

@@ -1,0 +1,107 @@
+-- Wrong answers of the functions that a host calls, in `host_read`, `host_step`, `host_write` and `host_whole`: what the operation inside promises, as it crosses.
+use mathlib.Core.Path.{refl}
+use mathlib.Core.List.{List, [], _∷_}
+use Prim.Native.Nat.{ℕ}
+use Rattle.cut.specs.Format.{run, push, fill}
+use Rattle.words.specs.Le.{leAt, zerosAt, spell, puts}
+use Rattle.words.specs.Record.{spellHash, spellWords, spellFooter}
+use Rattle.rules.specs.Rules.{faultOf, kindOf, recordOf, nextOf}
+use Rattle.rules.specs.Held.{held}
+use Rattle.rules.specs.Verdicts.{verdictAt}
+use Rattle.layout.specs.Quay.{tag, hash}
+use Rattle.layout.specs.Scan.{foundIn, scan}
+use Rattle.reader.specs.Stream as stream
+use Rattle.reader.specs.Stream.{stepOf}
+use Rattle.beside.specs.Beside.{lend, bareOf, callFor}
+use Rattle.beside.specs.Rows.{reads, readFor, readWith}
+use Rattle.writer.specs.Offers.{wordsOf}
+use Rattle.writer.specs.Write as write
+use Rattle.writer.specs.Write.{bytesOf, answerOf, writtenOf, bufferOf}
+use Rattle.finder.specs.Find.{chunkIn, chunkFound, fileIn, fileFound}
+use Rattle.host.specs.Boundary.{readerIn, readerOut, stepOut, readOut, verdictOut, writerIn, writerOut, writtenOut, writtenFor, bufferFor}
+use Rattle.host.specs.Founds.{chunkOut, fileOut}
+use Rattle.host.specs.declared.ReaderState.{ReaderState}
+use Rattle.wrong_answers.specs.Wrong.{Wrong, _not_by_, Refuted, refuted}
+use Rattle.wrong_answers.specs.Told.{number, numbers}
+use Rattle.wrong_answers.specs.Inputs.{words, other, atEnd, atSegment, atFooter, tagShort, writer, offered, zeros, goodSegment, empty, chunks, files}
+
+-- a reader, as it was given out, with so many bytes in its carry
+abbrev carrying : ℕ → ReaderState
+carrying have = readerOut (record { have = have; tag = hash; place = atSegment })
+
+-- the same with a code for what is due that is not known; 7 is left
+abbrev unknownDue : ReaderState
+unknownDue = record {
+  tag = hash;
+  place = record {
+    at = 96;
+    offset = 0;
+    totals = carrying 0 .place .totals;
+    due = record { sum = 0; total = 0; code = 10; left = 7 };
+    flags = 0;
+    entries = 0;
+    footer = 0;
+    have = 0;
+  };
+}
+
+abbrev wrongs : List Wrong
+wrongs =
+    -- ## `mdb_reader_new`
+    -- a reader begun with a bad tag goes out as one that has read all
+    (readerOut (bareOf (stream.fresh tagShort)) .place .due .code not 8 by number)
+    -- a footer announced
+    ∷ (readerOut (bareOf (stream.fresh tag)) .place .footer not 1 by number)
+    -- ## `mdb_reader_read`
+    -- how many bytes are carried is forgotten on the way out
+    ∷ (readOut (readWith (readerIn (carrying 0)) (zeros 200) (1 ∷ 2 ∷ 3 ∷ []) (zeros 9) .answer) .reader .place .have not 0 by number)
+    -- the bytes taken for the rows filled
+    ∷ (readOut (readWith (readerIn (carrying 0)) (zeros 200) goodSegment (zeros 9) .answer) .count not 48 by number)
+    -- no byte taken
+    ∷ (readOut (readWith (readerIn (carrying 0)) (zeros 200) goodSegment (zeros 9) .answer) .taken not 0 by number)
+    -- ## `mdb_reader_step`
+    -- no byte taken
+    ∷ (stepOut (callFor (readerIn (carrying 0)) (zeros 200) goodSegment) .taken not 0 by number)
+    -- a record found said to be nothing yet
+    ∷ (stepOut (callFor (readerIn (carrying 0)) (zeros 200) goodSegment) .said not 0 by number)
+    -- ## `mdb_reader_verdict`
+    -- the number of an accepted shard for a refused one
+    ∷ (verdictOut (stream.verdictOf (lend (readerIn (carrying 0)) [])) .number not 0 by number)
+    -- a code that is not known taken for the end
+    ∷ (verdictOut (stream.verdictOf (lend (readerIn unknownDue) [])) .length not 96 by number)
+    -- ## `mdb_writer_new`
+    -- 16 for a bad tag
+    ∷ (writerOut (write.fresh tagShort) .place .due .left not 16 by number)
+    -- a fresh writer waits for a file head
+    ∷ (writerOut (write.fresh tag) .place .due .code not 1 by number)
+    -- ## `mdb_writer_put`
+    -- kind 9 taken for a footer
+    ∷ (writtenOut (writtenFor (writerIn (writerOut (writer atFooter))) (offered 9) 200) .wrote not 200 by number)
+    ∷ (bufferFor (writerIn (writerOut (writer atFooter))) (offered 9) (zeros 200) not bufferFor (writer atFooter) (offered 8) (zeros 200) by numbers)
+    -- a refused offer said to have been written
+    ∷ (writtenOut (writtenFor (writerIn (writerOut (writer atFooter))) (offered 1) 200) .wrote not 48 by number)
+    -- ## `mdb_writer_verdict`
+    -- a writer that is done waits for a footer when it comes back
+    ∷ (verdictOut (write.verdictOf (writerIn (writerOut (writer atEnd)))) .number not 1 by number)
+    -- a verdict never has a footer
+    ∷ (verdictOut (write.verdictOf (writer (nextOf atFooter (words 0 0 0 0)))) .footer not 0 by number)
+    -- ## `mdb_judge`
+    -- the position of a refusal for the length
+    ∷ (verdictOut (foundIn tag empty .verdict) .length not 0 by number)
+    -- tag and shard exchanged
+    ∷ (verdictOut (foundIn tag empty .verdict) .number not verdictOut (foundIn empty tag .verdict) .number by number)
+    -- ## `mdb_find_chunk`
+    -- the chunk index for the block number
+    ∷ (chunkOut (chunkFound tag chunks other) .block not 1 by number)
+    -- the chunk index lost
+    ∷ (chunkOut (chunkFound tag chunks other) .index not 0 by number)
+    -- ## `mdb_find_file`
+    -- the file number lost
+    ∷ (fileOut (fileFound tag files other) .file not 0 by number)
+    -- tag and shard exchanged
+    ∷ (fileOut (fileFound tag files other) .said not fileOut (fileFound files tag other) .said by number)
+    ∷ []
+
+pub calls-refuted : Refuted wrongs
+unfolding stream.fresh stepOf stream.verdictOf callFor readWith readFor reads puts write.fresh wordsOf bytesOf answerOf writtenOf bufferOf write.verdictOf chunkFound chunkIn fileFound fileIn foundIn scan run push fill verdictAt faultOf kindOf recordOf nextOf held leAt zerosAt spell spellHash spellWords spellFooter
+calls-refuted = refuted wrongs refl

@@ -1,0 +1,135 @@
+-- Wrong answers of `host`: states and answers on their way out as numbers, and in again.
+use mathlib.Core.Path.{refl}
+use mathlib.Core.List.{List, [], _∷_}
+use Prim.Native.Nat.{ℕ}
+use Rattle.words.specs.Record.{spellFooter, spellHash, spellWords}
+use Rattle.words.specs.Le.{spell}
+use Rattle.rules.specs.Rules.{faultOf, kindOf, recordOf, nextOf, start}
+use Rattle.rules.specs.Held.{held}
+use Rattle.rules.specs.Verdicts.{refused, refusalAt, summaryOf}
+use Rattle.rules.specs.declared.Due.the-variants as due
+use Rattle.rules.specs.declared.Verdict.the-variants as verdict
+use Rattle.layout.specs.Quay.{hash}
+use Rattle.reader.specs.declared.Said.the-variants as said
+use Rattle.beside.specs.declared.Call.{Call}
+use Rattle.beside.specs.declared.Read.{Read}
+use Rattle.writer.specs.Offers.{wordsOf}
+use Rattle.writer.specs.Write.{bytesOf, answerOf, writtenOf, bufferOf}
+use Rattle.writer.specs.declared.Written.{Written}
+use Rattle.writer.specs.declared.Fields.the-variants as fields
+use Rattle.writer.specs.declared.Answer.the-variants as answer
+use Rattle.finder.specs.declared.FoundChunk.{FoundChunk}
+use Rattle.finder.specs.declared.FoundChunk.the-variants as chunk
+use Rattle.finder.specs.declared.FoundFile.{FoundFile}
+use Rattle.finder.specs.declared.FoundFile.the-variants as file
+use Rattle.host.specs.Boundary.{recordOut, offerIn, verdictOut, readerIn, readerOut, stepOut, readOut, writerIn, writerOut, writtenOut, writtenFor, bufferFor}
+use Rattle.host.specs.Founds.{chunkOut, fileOut}
+use Rattle.host.specs.declared.PlaceState.{PlaceState}
+use Rattle.wrong_answers.specs.Wrong.{Wrong, _not_by_, Refuted, refuted}
+use Rattle.wrong_answers.specs.Told.{number, numbers, dueTold, answerTold, fieldsTold}
+use Rattle.wrong_answers.specs.Inputs.{words, atEnd, atSegment, atFooter, bare, writer, offered, zeros}
+
+-- a place that came in, where this is due
+abbrev placeWith : ℕ → ℕ → PlaceState
+placeWith code left = record {
+  at = 96;
+  offset = 0;
+  totals = record { files = 0; segments = 0; xorbs = 0; chunks = 0; bytes = 0 };
+  due = record { sum = 0; total = 0; code = code; left = left };
+  flags = 0;
+  entries = 0;
+  footer = 2;
+  have = 7;
+}
+
+-- a call that found a record of 48 bytes, and a read of two
+abbrev found : Call
+found = record { reader = bare atSegment; answer = record { taken = 48; found = recordOf atSegment (words 0 7 5 6); said = said.Record } }
+
+abbrev tworows : Read
+tworows = record { reader = bare atSegment; taken = 96; count = 2; said = said.Record }
+
+-- a refusal to a writer, and a record that it wrote
+abbrev rejected : Written
+rejected = record { writer = writer atSegment; answer = answer.Refused (refusalAt 16 atSegment) }
+
+abbrev wrote : Written
+wrote = record { writer = writer atSegment; answer = answer.Wrote 48 }
+
+abbrev chunkHit : FoundChunk
+chunkHit = chunk.At (record { 0 = 1 }) (record { 0 = 2 }) (record { 0 = 240 })
+
+abbrev fileHit : FoundFile
+fileHit = file.At (record { 0 = 1 }) (record { 0 = 192 })
+
+abbrev wrongs : List Wrong
+wrongs =
+    -- ## `reader_in`
+    -- a code that is not known taken for the end
+    (readerIn (record { tag = hash; place = placeWith 10 7 }) .place .due not due.End by dueTold)
+    -- nothing in the carry
+    ∷ (readerIn (record { tag = hash; place = placeWith 2 1 }) .have not 0 by number)
+    -- ## `reader_out`
+    -- a refusal goes out as the end
+    ∷ (readerOut (bare (refused 2 start)) .place .due .code not 8 by number)
+    -- a footer announced
+    ∷ (readerOut (bare atSegment) .place .footer not 1 by number)
+    -- ## `step_out`
+    -- no byte taken
+    ∷ (stepOut found .taken not 0 by number)
+    -- a record found said to be nothing yet
+    ∷ (stepOut found .said not 0 by number)
+    -- ## `read_out`
+    -- the bytes taken for the rows filled
+    ∷ (readOut tworows .count not 96 by number)
+    -- no byte taken
+    ∷ (readOut tworows .taken not 0 by number)
+    -- ## `record_out`
+    -- no position
+    ∷ (recordOut (found .answer .found) .at not 0 by number)
+    -- a segment in the header's row
+    ∷ (recordOut (found .answer .found) .kind not 0 by number)
+    -- ## `offer_in`
+    -- a chunk's numbers exchanged
+    ∷ (offerIn (offered 6) .fields not fields.Chunk 2 1 by fieldsTold)
+    -- times exchanged
+    ∷ (offerIn (offered 8) .fields not fields.Footer 6 5 by fieldsTold)
+    -- ## `verdict_out`
+    -- the number of an accepted shard for a refused one
+    ∷ (verdictOut (verdict.Refused (refusalAt 7 atSegment)) .number not 0 by number)
+    -- the position of a refusal for the length
+    ∷ (verdictOut (verdict.Accepted (summaryOf atEnd)) .length not 0 by number)
+    -- ## `writer_in`
+    -- the end taken for a footer
+    ∷ (writerIn (record { tag = hash; place = placeWith 8 0 }) .place .due not due.Footer by dueTold)
+    -- another position
+    ∷ (writerIn (record { tag = hash; place = placeWith 8 0 }) .place .at .0 not 0 by number)
+    -- ## `writer_out`
+    -- 16 for a bad tag
+    ∷ (writerOut (writer (refused 2 start)) .place .due .left not 16 by number)
+    -- a fresh writer waits for a file head
+    ∷ (writerOut (writer start) .place .due .code not 1 by number)
+    -- ## `put_for`
+    -- kind 9 taken for a footer
+    ∷ (writtenFor (writer atFooter) (offered 9) 200 .answer not answer.Wrote 200 by answerTold)
+    ∷ (bufferFor (writer atFooter) (offered 9) (zeros 200) not bufferFor (writer atFooter) (offered 8) (zeros 200) by numbers)
+    -- ## `written_out`
+    -- a refused offer said to have been written
+    ∷ (writtenOut rejected .wrote not 48 by number)
+    -- no byte written
+    ∷ (writtenOut wrote .wrote not 0 by number)
+    -- ## `chunk_out`
+    -- the chunk index for the block number
+    ∷ (chunkOut chunkHit .block not 2 by number)
+    -- the chunk index lost
+    ∷ (chunkOut chunkHit .index not 0 by number)
+    -- ## `file_out`
+    -- the file number lost
+    ∷ (fileOut fileHit .file not 0 by number)
+    -- found, and said to be absent
+    ∷ (fileOut fileHit .said not 0 by number)
+    ∷ []
+
+pub host-refuted : Refuted wrongs
+unfolding wordsOf bytesOf answerOf writtenOf bufferOf faultOf kindOf recordOf nextOf held spell spellHash spellWords spellFooter
+host-refuted = refuted wrongs refl

@@ -1,0 +1,104 @@
+-- The inputs at which answers are tried: places, readers and writers that stand there, and a few shards. Tag, hash, rows, bookend and footer are the quay's.
+use Prim.Native.Nat.{ℕ}
+use mathlib.Core.Bool.{true}
+use mathlib.Core.List.{List, [], _∷_, _++_}
+use lib.ListN.{take, replicate}
+use Rattle.words.specs.declared.Words.{Words}
+use Rattle.rules.specs.Rules.{movedTo, withOffset, withFooter, nothing, start}
+use Rattle.rules.specs.declared.Place.{Place}
+use Rattle.rules.specs.declared.Due.{Due}
+use Rattle.rules.specs.declared.Due.the-variants.{Segment, Footer, End}
+use Rattle.layout.specs.Quay.{tag, hash, row, header, bookend}
+use Rattle.reader.specs.Stream.{emptied}
+use Rattle.reader.specs.declared.Reader.{Reader}
+use Rattle.beside.specs.Beside.{bareOf}
+use Rattle.beside.specs.declared.Bare.{Bare}
+use Rattle.writer.specs.declared.Writer.{Writer}
+use Rattle.writer.specs.declared.Offer.{Offer}
+use Rattle.writer.specs.declared.Fields.{Fields}
+use Rattle.host.specs.declared.OfferState.{OfferState}
+
+-- ## Numbers of records
+
+abbrev pub words : ℕ → ℕ → ℕ → ℕ → Words
+words a b c d = record { hash = hash; a = a; b = b; c = c; d = d }
+
+-- the hash of all ones, and another one
+abbrev pub onesWords : ℕ → Words
+onesWords a = record { hash = replicate 4 18446744073709551615; a = a; b = 0; c = 0; d = 0 }
+
+abbrev pub other : List ℕ
+other = 5 ∷ 6 ∷ 7 ∷ 8 ∷ []
+
+-- bits 31 and 30
+abbrev pub flag31 : ℕ
+flag31 = 2147483648
+
+abbrev pub flag30 : ℕ
+flag30 = 1073741824
+
+-- ## Places
+
+-- at a position, with this due
+abbrev pub here : ℕ → Due → Place
+here at due = movedTo at nothing due start
+
+-- where the only segment of a file is due
+abbrev pub atSegment : Place
+atSegment = here 96 (Segment 1)
+
+-- behind the shard of 144 bytes
+abbrev pub atEnd : Place
+atEnd = here 144 End
+
+-- where the footer of a shard with nothing else is due
+abbrev pub atFooter : Place
+atFooter = withFooter true (withOffset 96 (here 144 Footer))
+
+-- ## Those that stand there
+
+abbrev pub tagShort : List ℕ
+tagShort = take 31 tag
+
+abbrev pub reader : Place → Reader
+reader p = emptied hash p
+
+abbrev pub bare : Place → Bare
+bare p = bareOf (emptied hash p)
+
+abbrev pub writer : Place → Writer
+writer p = record { tag = hash; place = p }
+
+abbrev pub offer : Fields → Offer
+offer f = record { hash = hash; fields = f }
+
+-- an offer as a host makes it, of this kind
+abbrev pub offered : ℕ → OfferState
+offered kind = record { hash = hash; x = 5; y = 6; kind = kind; a = 1; b = 2; c = 3; d = 4 }
+
+abbrev pub zeros : ℕ → List ℕ
+zeros n = replicate n 0
+
+-- ## Bytes
+
+-- a segment of 7 bytes, chunks 5 to 5, and one of chunks 5 to 6
+abbrev pub badSegment : List ℕ
+badSegment = row hash 0 7 5 5
+
+abbrev pub goodSegment : List ℕ
+goodSegment = row hash 0 7 5 6
+
+-- the shard of 144 bytes, and one byte more
+abbrev pub empty : List ℕ
+empty = header 0 ++ bookend ++ bookend
+
+abbrev pub late : List ℕ
+late = empty ++ (0 ∷ [])
+
+-- one xorb with two chunks, at 144 and 192
+abbrev pub chunks : List ℕ
+chunks = header 0 ++ bookend ++ row hash 0 2 30 0 ++ row hash 0 10 0 0 ++ row other 10 20 0 0 ++ bookend
+
+-- a file of one segment and its verification, and at 192 an empty one
+abbrev pub files : List ℕ
+files = header 0 ++ row hash flag31 1 0 0 ++ goodSegment ++ row hash 0 0 0 0 ++ row other flag31 0 0 0 ++ bookend ++ bookend

@@ -1,0 +1,12 @@
+pub mod Wrong
+pub mod Told
+pub mod Inputs
+pub mod Words
+pub mod Rules
+pub mod Reader
+pub mod Beside
+pub mod Writer
+pub mod Finder
+pub mod Host
+pub mod Calls
+pub mod Paper

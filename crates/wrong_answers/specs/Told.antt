@@ -1,0 +1,47 @@
+-- How answers are told in numbers, so that two of them can be compared. What is told need not be all of an answer: two that are told otherwise differ.
+-- An enum is told as it crosses to C (crate host, specs/Boundary).
+use Prim.Native.Nat.{ℕ}
+use mathlib.Core.Bool.{Bool}
+use mathlib.Core.List.{List, [], _∷_}
+use Rattle.rules.specs.Verdicts.{numbersOf}
+use Rattle.rules.specs.declared.Due.{Due}
+use Rattle.rules.specs.declared.Verdict.{Verdict}
+use Rattle.reader.specs.declared.Said.{Said}
+use Rattle.writer.specs.declared.Fields.{Fields}
+use Rattle.writer.specs.declared.Answer.{Answer}
+use Rattle.finder.specs.declared.FoundChunk.{FoundChunk}
+use Rattle.finder.specs.declared.FoundFile.{FoundFile}
+use Rattle.host.specs.Boundary.{mark, dueOut, offerBy, saidOut, refusalIn, wroteOut, refusalOf}
+use Rattle.host.specs.Founds.{chunkOut, fileOut}
+
+abbrev pub number : ℕ → List ℕ
+number n = n ∷ []
+
+abbrev pub numbers : List ℕ → List ℕ
+numbers ns = ns
+
+abbrev pub truth : Bool → List ℕ
+truth b = mark b ∷ []
+
+abbrev pub dueTold : Due → List ℕ
+dueTold d = dueOut d .code ∷ dueOut d .left ∷ dueOut d .sum ∷ dueOut d .total ∷ []
+
+abbrev pub verdictTold : Verdict → List ℕ
+verdictTold v = numbersOf v .refusal .number ∷ numbersOf v .refusal .at .0 ∷ numbersOf v .summary .length ∷ []
+
+abbrev pub saidTold : Said → List ℕ
+saidTold s = saidOut s ∷ refusalIn s .number ∷ refusalIn s .at .0 ∷ []
+
+abbrev pub answerTold : Answer → List ℕ
+answerTold a = wroteOut a ∷ refusalOf a .number ∷ refusalOf a .at .0 ∷ []
+
+abbrev pub fieldsTold : Fields → List ℕ
+fieldsTold f =
+    let o = offerBy [] f in
+    o .kind ∷ o .x ∷ o .y ∷ o .a ∷ o .b ∷ o .c ∷ o .d ∷ []
+
+abbrev pub chunkTold : FoundChunk → List ℕ
+chunkTold f = chunkOut f .said ∷ chunkOut f .block ∷ chunkOut f .index ∷ chunkOut f .at ∷ chunkOut f .number ∷ []
+
+abbrev pub fileTold : FoundFile → List ℕ
+fileTold f = fileOut f .said ∷ fileOut f .file ∷ fileOut f .at ∷ fileOut f .number ∷ []

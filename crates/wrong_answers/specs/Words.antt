@@ -1,0 +1,34 @@
+-- Wrong answers of the inner crates `words` and `carry`: numbers and records in bytes, and the bytes of the record due.
+use mathlib.Core.Path.{refl}
+use mathlib.Core.Bool.{true}
+use mathlib.Core.List.{List, [], _∷_, _++_}
+use Prim.Native.Nat.{_-_}
+use lib.ListN.{drop}
+use lib.Seq.{paste}
+use Rattle.words.specs.Le.{leAt, spell, zerosAt}
+use Rattle.words.specs.Record.{spellHash, spellWords, footerAt}
+use Rattle.rules.specs.Rules.{wordsIn}
+use Rattle.carry.specs.Carry.{carryIn}
+use Rattle.wrong_answers.specs.Wrong.{Wrong, _not_by_, Refuted, refuted}
+use Rattle.wrong_answers.specs.Told.{number, numbers, truth}
+use Rattle.wrong_answers.specs.Inputs.{words, zeros, atSegment, goodSegment}
+
+abbrev wrongs : List Wrong
+wrongs =
+    -- `u32_at`: a byte of a number is read twice
+    (leAt 4 (1 ∷ 2 ∷ 3 ∷ 4 ∷ []) 0 not leAt 4 (1 ∷ 2 ∷ 2 ∷ 4 ∷ []) 0 by number)
+    -- `put_u32`: half of a byte goes to the next one
+    ∷ (spell 4 65536 not 0 ∷ 0 ∷ 2 ∷ 0 ∷ [] by numbers)
+    -- `Words::write`: two numbers of a record are exchanged
+    ∷ (spellWords (words 1 2 3 4) not spellWords (words 1 3 2 4) by numbers)
+    -- `Footer::read`: the second reserved area is not looked at
+    ∷ (footerAt (zeros 120 ++ (1 ∷ zeros 79)) 0 .clean not true by truth)
+    -- `missing`: what the carry has is not taken off
+    ∷ (48 - 10 not 48 by number)
+    -- `hear`: a byte in the carry is passed over
+    ∷ (wordsIn atSegment (paste (carryIn goodSegment 1) 1 (drop 1 goodSegment) 47) .hash not wordsIn atSegment (drop 1 goodSegment ++ zeros 1) .hash by numbers)
+    ∷ []
+
+pub words-refuted : Refuted wrongs
+unfolding leAt spell zerosAt spellHash spellWords
+words-refuted = refuted wrongs refl
