@@ -1,7 +1,6 @@
 -- Wrong answers of the functions that a host calls, in `host_read`, `host_step`, `host_write` and `host_whole`: what the operation inside promises, as it crosses.
 use mathlib.Core.Path.{refl}
 use mathlib.Core.List.{List, [], _∷_}
-use Prim.Native.Nat.{ℕ}
 use Rattle.cut.specs.Format.{run, push, fill}
 use Rattle.words.specs.Le.{leAt, zerosAt, spell, puts}
 use Rattle.words.specs.Record.{spellHash, spellWords, spellFooter}
@@ -21,29 +20,27 @@ use Rattle.finder.specs.Find.{chunkIn, chunkFound, fileIn, fileFound}
 use Rattle.host.specs.Boundary.{readerIn, readerOut, stepOut, readOut, verdictOut, writerIn, writerOut, writtenOut, writtenFor, bufferFor}
 use Rattle.host.specs.Founds.{chunkOut, fileOut}
 use Rattle.host.specs.declared.ReaderState.{ReaderState}
+use Rattle.host.specs.declared.ReadState.{ReadState}
+use Rattle.host.specs.declared.StepState.{StepState}
+use Rattle.host.specs.declared.WriterState.{WriterState}
 use Rattle.wrong_answers.specs.Wrong.{Wrong, _not_by_, Refuted, refuted}
 use Rattle.wrong_answers.specs.Told.{number, numbers}
-use Rattle.wrong_answers.specs.Inputs.{words, other, atEnd, atSegment, atFooter, tagShort, writer, offered, zeros, goodSegment, empty, chunks, files}
+use Rattle.wrong_answers.specs.Inputs.{words, other, atEnd, atSegment, atFooter, tagShort, bare, writer, placeWith, offered, zeros, goodSegment, empty, chunks, files}
 
--- a reader, as it was given out, with so many bytes in its carry
-abbrev carrying : ℕ → ReaderState
-carrying have = readerOut (record { have = have; tag = hash; place = atSegment })
+-- a reader that waits for a segment, as it was given out
+abbrev waiting : ReaderState
+waiting = readerOut (bare atSegment)
 
--- the same with a code for what is due that is not known; 7 is left
-abbrev unknownDue : ReaderState
-unknownDue = record {
-  tag = hash;
-  place = record {
-    at = 96;
-    offset = 0;
-    totals = carrying 0 .place .totals;
-    due = record { sum = 0; total = 0; code = 10; left = 7 };
-    flags = 0;
-    entries = 0;
-    footer = 0;
-    have = 0;
-  };
-}
+-- what it gives for a segment, by a read and by a step
+abbrev segmentRead : ReadState
+segmentRead = readOut (readWith (readerIn waiting) (zeros 200) goodSegment (zeros 9) .answer)
+
+abbrev segmentStep : StepState
+segmentStep = stepOut (callFor (readerIn waiting) (zeros 200) goodSegment)
+
+-- a writer that waits for a footer, as it was given out
+abbrev footerWriter : WriterState
+footerWriter = writerOut (writer atFooter)
 
 abbrev wrongs : List Wrong
 wrongs =
@@ -54,21 +51,21 @@ wrongs =
     ∷ (readerOut (bareOf (stream.fresh tag)) .place .footer not 1 by number)
     -- ## `mdb_reader_read`
     -- how many bytes are carried is forgotten on the way out
-    ∷ (readOut (readWith (readerIn (carrying 0)) (zeros 200) (1 ∷ 2 ∷ 3 ∷ []) (zeros 9) .answer) .reader .place .have not 0 by number)
+    ∷ (readOut (readWith (readerIn waiting) (zeros 200) (1 ∷ 2 ∷ 3 ∷ []) (zeros 9) .answer) .reader .place .have not 0 by number)
     -- the bytes taken for the rows filled
-    ∷ (readOut (readWith (readerIn (carrying 0)) (zeros 200) goodSegment (zeros 9) .answer) .count not 48 by number)
+    ∷ (segmentRead .count not 48 by number)
     -- no byte taken
-    ∷ (readOut (readWith (readerIn (carrying 0)) (zeros 200) goodSegment (zeros 9) .answer) .taken not 0 by number)
+    ∷ (segmentRead .taken not 0 by number)
     -- ## `mdb_reader_step`
     -- no byte taken
-    ∷ (stepOut (callFor (readerIn (carrying 0)) (zeros 200) goodSegment) .taken not 0 by number)
+    ∷ (segmentStep .taken not 0 by number)
     -- a record found said to be nothing yet
-    ∷ (stepOut (callFor (readerIn (carrying 0)) (zeros 200) goodSegment) .said not 0 by number)
+    ∷ (segmentStep .said not 0 by number)
     -- ## `mdb_reader_verdict`
     -- the number of an accepted shard for a refused one
-    ∷ (verdictOut (stream.verdictOf (lend (readerIn (carrying 0)) [])) .number not 0 by number)
+    ∷ (verdictOut (stream.verdictOf (lend (readerIn waiting) [])) .number not 0 by number)
     -- a code that is not known taken for the end
-    ∷ (verdictOut (stream.verdictOf (lend (readerIn unknownDue) [])) .length not 96 by number)
+    ∷ (verdictOut (stream.verdictOf (lend (readerIn (record { tag = hash; place = placeWith 10 7 })) [])) .length not 96 by number)
     -- ## `mdb_writer_new`
     -- 16 for a bad tag
     ∷ (writerOut (write.fresh tagShort) .place .due .left not 16 by number)
@@ -76,10 +73,10 @@ wrongs =
     ∷ (writerOut (write.fresh tag) .place .due .code not 1 by number)
     -- ## `mdb_writer_put`
     -- kind 9 taken for a footer
-    ∷ (writtenOut (writtenFor (writerIn (writerOut (writer atFooter))) (offered 9) 200) .wrote not 200 by number)
-    ∷ (bufferFor (writerIn (writerOut (writer atFooter))) (offered 9) (zeros 200) not bufferFor (writer atFooter) (offered 8) (zeros 200) by numbers)
+    ∷ (writtenOut (writtenFor (writerIn footerWriter) (offered 9) 200) .wrote not 200 by number)
+    ∷ (bufferFor (writerIn footerWriter) (offered 9) (zeros 200) not bufferFor (writer atFooter) (offered 8) (zeros 200) by numbers)
     -- a refused offer said to have been written
-    ∷ (writtenOut (writtenFor (writerIn (writerOut (writer atFooter))) (offered 1) 200) .wrote not 48 by number)
+    ∷ (writtenOut (writtenFor (writerIn footerWriter) (offered 1) 200) .wrote not 48 by number)
     -- ## `mdb_writer_verdict`
     -- a writer that is done waits for a footer when it comes back
     ∷ (verdictOut (write.verdictOf (writerIn (writerOut (writer atEnd)))) .number not 1 by number)

@@ -1,7 +1,6 @@
 -- Wrong answers of `host`: states and answers on their way out as numbers, and in again.
 use mathlib.Core.Path.{refl}
 use mathlib.Core.List.{List, [], _∷_}
-use Prim.Native.Nat.{ℕ}
 use Rattle.words.specs.Record.{spellFooter, spellHash, spellWords}
 use Rattle.words.specs.Le.{spell}
 use Rattle.rules.specs.Rules.{faultOf, kindOf, recordOf, nextOf, start}
@@ -24,30 +23,16 @@ use Rattle.finder.specs.declared.FoundFile.{FoundFile}
 use Rattle.finder.specs.declared.FoundFile.the-variants as file
 use Rattle.host.specs.Boundary.{recordOut, offerIn, verdictOut, readerIn, readerOut, stepOut, readOut, writerIn, writerOut, writtenOut, writtenFor, bufferFor}
 use Rattle.host.specs.Founds.{chunkOut, fileOut}
-use Rattle.host.specs.declared.PlaceState.{PlaceState}
 use Rattle.wrong_answers.specs.Wrong.{Wrong, _not_by_, Refuted, refuted}
 use Rattle.wrong_answers.specs.Told.{number, numbers, dueTold, answerTold, fieldsTold}
-use Rattle.wrong_answers.specs.Inputs.{words, atEnd, atSegment, atFooter, bare, writer, offered, zeros}
-
--- a place that came in, where this is due
-abbrev placeWith : ℕ → ℕ → PlaceState
-placeWith code left = record {
-  at = 96;
-  offset = 0;
-  totals = record { files = 0; segments = 0; xorbs = 0; chunks = 0; bytes = 0 };
-  due = record { sum = 0; total = 0; code = code; left = left };
-  flags = 0;
-  entries = 0;
-  footer = 2;
-  have = 7;
-}
+use Rattle.wrong_answers.specs.Inputs.{words, atEnd, atSegment, atFooter, bare, writer, placeWith, offered, zeros}
 
 -- a call that found a record of 48 bytes, and a read of two
 abbrev found : Call
 found = record { reader = bare atSegment; answer = record { taken = 48; found = recordOf atSegment (words 0 7 5 6); said = said.Record } }
 
-abbrev tworows : Read
-tworows = record { reader = bare atSegment; taken = 96; count = 2; said = said.Record }
+abbrev twoRows : Read
+twoRows = record { reader = bare atSegment; taken = 96; count = 2; said = said.Record }
 
 -- a refusal to a writer, and a record that it wrote
 abbrev rejected : Written
@@ -81,9 +66,9 @@ wrongs =
     ∷ (stepOut found .said not 0 by number)
     -- ## `read_out`
     -- the bytes taken for the rows filled
-    ∷ (readOut tworows .count not 96 by number)
+    ∷ (readOut twoRows .count not 96 by number)
     -- no byte taken
-    ∷ (readOut tworows .taken not 0 by number)
+    ∷ (readOut twoRows .taken not 0 by number)
     -- ## `record_out`
     -- no position
     ∷ (recordOut (found .answer .found) .at not 0 by number)

@@ -17,6 +17,7 @@ use Rattle.writer.specs.declared.Writer.{Writer}
 use Rattle.writer.specs.declared.Offer.{Offer}
 use Rattle.writer.specs.declared.Fields.{Fields}
 use Rattle.host.specs.declared.OfferState.{OfferState}
+use Rattle.host.specs.declared.PlaceState.{PlaceState}
 
 -- ## Numbers of records
 
@@ -72,14 +73,29 @@ writer p = record { tag = hash; place = p }
 abbrev pub offer : Fields → Offer
 offer f = record { hash = hash; fields = f }
 
--- an offer as a host makes it, of this kind
+-- ## As a host hands them in
+
+-- a place where what is due has this code, and so much is left
+abbrev pub placeWith : ℕ → ℕ → PlaceState
+placeWith code left = record {
+  at = 96;
+  offset = 0;
+  totals = record { files = 0; segments = 0; xorbs = 0; chunks = 0; bytes = 0 };
+  due = record { sum = 0; total = 0; code = code; left = left };
+  flags = 0;
+  entries = 0;
+  footer = 2;
+  have = 7;
+}
+
+-- an offer of this kind
 abbrev pub offered : ℕ → OfferState
 offered kind = record { hash = hash; x = 5; y = 6; kind = kind; a = 1; b = 2; c = 3; d = 4 }
 
+-- ## Bytes
+
 abbrev pub zeros : ℕ → List ℕ
 zeros n = replicate n 0
-
--- ## Bytes
 
 -- a segment of 7 bytes, chunks 5 to 5, and one of chunks 5 to 6
 abbrev pub badSegment : List ℕ

@@ -62,6 +62,7 @@ wrongs =
     -- reading goes on behind it
     ∷ (placeAfter atSegment 10 (words 0 7 5 5) .at .0 not 144 by number)
     ∷ (Verdicts.refused 10 atSegment .due not due.FileHead by dueTold)
+    ∷ (noRecord .at .0 not 96 by number)
     -- a byte taken in silence
     ∷ (silent 0 said.Nothing .taken not 1 by number)
     -- a record handed out in silence
