@@ -4,3 +4,4 @@ pub mod Reached
 pub mod Cut
 pub mod Whole
 pub mod Theorem
+mod InPlace

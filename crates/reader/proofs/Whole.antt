@@ -5,8 +5,8 @@ use mathlib.Core.List.{List, []}
 use Prim.Native.Nat.{ℕ, zero, suc, _+_, _≤_, _<_}
 use native.Mathlib.Omega.{arith}
 use lib.Dec.{eqb, ltb}
-use lib.ListN.{length, drop, length-drop, drop-of-length-le, getD}
-use lib.Seq.{drop-drop, drop-cons, getD-drop}
+use lib.ListN.{length, take, drop, length-drop, drop-of-length-le, getD}
+use lib.Seq.{paste, drop-drop, drop-cons, getD-drop, take-all, length-take-le}
 use borrow.Author.Tests.{eq-eqb, ne-eqb, lt-ltb, le-ltb, eqb-true, eqb-false, ltb-true, ltb-false}
 use Rattle.words.specs.Le.{Bytes}
 use Rattle.words.specs.Record.{hashAt}
@@ -19,6 +19,8 @@ use Rattle.rules.specs.Rules.{sizeOf, wordsIn, faultIn, recordOf, nextOf, start
 use Rattle.rules.specs.Verdicts.{refused, verdictAt}
 use Rattle.rules.specs.declared.Place.{Place}
 use Rattle.rules.specs.declared.Record.{Record}
+use Rattle.carry.specs.Carry.{carryIn}
+use Rattle.carry.proofs.Carry.{words-own, fault-own}
 use Rattle.layout.specs.Scan.{settled, judged, format, scan, verdictOf, foundIn}
 use Rattle.layout.specs.Reach.{Reached, placeOf, lastPlace}
 use Rattle.layout.proofs.Judged.{good-is}
@@ -43,6 +45,17 @@ module _ (tag s : List ℕ) (p : Place) where
   turn-full k l =
       let z : sizeOf p ≡ 0 → ⊥ = λ e. omega arith in
       rw (ne-eqb _ _ z, le-ltb _ _ l)
+
+-- a record that is judged where it stands, in front of what an empty carry has
+module _ (tag s : List ℕ) (p : Place) (k : 0 < sizeOf p) (l : sizeOf p ≤ leftAt s p) where
+  pub turn-heard : {m n : ℕ} {w : Words} → m ≡ sizeOf p
+      → w ≡ wordsIn p (paste (carryIn s 0) 0 (take (leftAt s p) (drop (p .at .0) s)) m)
+      → n ≡ faultIn tag p (paste (carryIn s 0) 0 (take (leftAt s p) (drop (p .at .0) s)) m)
+      → turnAfter p n w ≡ turnOf tag s p
+  turn-heard e u v =
+      let h : length (drop (p .at .0) s) ≤ leftAt s p = simp length-drop (omega arith) in
+      let q : length (recordAt s p) ≡ sizeOf p = length-take-le (sizeOf p) (drop (p .at .0) s) (rw length-drop l) in
+      rw (u, v, take-all (leftAt s p) (drop (p .at .0) s) h, e, words-own p (recordAt s p) _ k q, fault-own p (recordAt s p) _ k q tag, turn-full tag s p k l)
 
 -- ## What the turns come to
 

@@ -31,8 +31,7 @@ returns-3 c =
     let c6 = c5 .before .before .before .before .before in
     let a = c6 .args in
     let e = rw (c5 .size .ensures) at (c4 .missing .ensures) in
-    c .settle .ensures
-    ∙ rw (c1 .after .ensures .0, c1 .after .ensures .1, c1 .after .ensures .2)
+    rw (c .settle .ensures, c1 .after .ensures .0, c1 .after .ensures .1, c1 .after .ensures .2)
     (sym (step-settled (a .self) (a .piece .now) (omega (arith, c5 .size .ensures)) e (c3 .if2 .left) (c2 .hear-held .ensures .0) (c2 .hear-held .ensures .1)))
 
 pub step-spec : {M : Type 1} → statement M

@@ -1,13 +1,13 @@
 -- `turn_at` meets its contract: what is due and the bytes left decide, in the order of the definition. Assumes nothing.
-use mathlib.Core.Path.{_≡_, refl, sym, _∙_}
-use Prim.Native.Nat.{_+_, _-_, _≤_, _<_}
+use mathlib.Core.Path.{refl, sym, ap, _∙_}
+use Prim.Native.Nat.{_-_, _≤_, _<_}
 use native.Mathlib.Omega.{arith}
 use native.Mathlib.Nat.{sub-zero}
-use lib.ListN.{length, take, drop, replicate, length-drop}
-use lib.Seq.{take-all, length-take-le}
+use lib.ListN.{length, drop, length-drop}
+use lib.Seq.{take-all}
 use Rattle.rules.specs.Rules.{sizeOf}
-use Rattle.carry.proofs.Carry.{words-own, fault-own}
-use Rattle.reader.proofs.Whole.{turn-end, turn-short, turn-full}
+use Rattle.reader.specs.Whole.{Turn}
+use Rattle.reader.proofs.Whole.{turn-end, turn-short, turn-heard}
 use borrow.Author.Needs.{needs}
 use Rattle.reader.proofs.judging.turn_at.Statement.{statement}
 use Rattle.reader.proofs.judging.turn_at.Tie as tie
@@ -43,18 +43,10 @@ returns-3 c =
     let c2 = c .before .before in
     let c4 = c2 .before .before in
     let c6 = c4 .before .before in
-    let c9 = c6 .before .before .before in
-    let a = c9 .args in
-    let p = a .place in
-    let at = p .at .0 in
-    let l = drop at (a .shard .now) in
-    let h : length l ≤ length (a .shard .now) - at = simp length-drop (omega arith) in
-    let k : 0 < sizeOf p = omega (arith, c6 .size .ensures) in
-    let e = rw (c6 .size .ensures) at (c4 .if2 .left) in
-    let q : length (take (sizeOf p) l) ≡ sizeOf p = length-take-le (sizeOf p) l (rw length-drop e) in
-    let w = words-own p (take (sizeOf p) l) (drop (0 + sizeOf p) (replicate 200 0)) k q in
-    let f = fault-own p (take (sizeOf p) l) (drop (0 + sizeOf p) (replicate 200 0)) k q (a .four) in
-    rw (c .turn-after .ensures .0, c .turn-after .ensures .1, c2 .hear .ensures .0, c2 .hear .ensures .1, take-all (length (a .shard .now) - at) l h, c6 .size .ensures, w, f, turn-full (a .four) (a .shard .now) p k e) (refl, refl)
+    let a = c6 .before .before .before .args in
+    let k : 0 < sizeOf (a .place) = omega (arith, c6 .size .ensures) in
+    let t = turn-heard (a .four) (a .shard .now) (a .place) k (rw (c6 .size .ensures) at (c4 .if2 .left)) (c6 .size .ensures) (c2 .hear .ensures .0) (c2 .hear .ensures .1) in
+    (c .turn-after .ensures .0 ∙ ap (λ (x : Turn). x .place) t, c .turn-after .ensures .1 ∙ ap (λ (x : Turn). x .over) t)
 
 pub turn-at-spec : {M : Type 1} → statement M
 turn-at-spec =

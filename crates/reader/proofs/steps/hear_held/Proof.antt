@@ -23,7 +23,7 @@ returns c =
     let l : length (a .t1) ≡ 200 = omega (arith, c1 .good .0) in
     let w = own-bytes (wordsIn p) (sizeOf p) (λ bs z q. words-own p bs z (c1 .pre .2) q) (a .t1) l (a .have) (a .piece .now) (a .lacks) (c1 .pre .0) (c1 .pre .1) (size-most (p .due)) in
     let f = own-bytes (faultIn (a .tag) p) (sizeOf p) (λ bs z q. fault-own p bs z (c1 .pre .2) q (a .tag)) (a .t1) l (a .have) (a .piece .now) (a .lacks) (c1 .pre .0) (c1 .pre .1) (size-most (p .due)) in
-    (c .hear .ensures .0 ∙ w, c .hear .ensures .1 ∙ f)
+    (rw (c .hear .ensures .0) w, rw (c .hear .ensures .1) f)
 
 pub hear-held-spec : {M : Type 1} → statement M
 hear-held-spec = tie.close (tie.spec (λ c. search needs) hear-requires returns)
