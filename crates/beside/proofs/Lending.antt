@@ -7,8 +7,8 @@ use Prim.Native.Nat.{ℕ, _+_, _-_, _≤_}
 use native.Mathlib.Nat.{zero-add}
 use native.Mathlib.Omega.{arith}
 use lib.Dec.{eqb}
-use lib.ListN.{length, drop, replicate, take-append-drop}
-use lib.Seq.{paste, paste-zero, take-paste}
+use lib.ListN.{length, take, drop, replicate, length-drop, take-append-drop}
+use lib.Seq.{paste, paste-zero, take-paste, take-all}
 use Rattle.words.specs.Checks.{pick}
 use Rattle.rules.specs.Verdicts.{refused, verdictAt}
 use Rattle.rules.specs.declared.Place.{Place}
@@ -25,6 +25,10 @@ use Rattle.beside.specs.Beside.{lend, bareOf, keptIn, callOf, dressedIn}
 use Rattle.beside.specs.declared.Bare.{Bare}
 
 -- ## What is lent, in and out
+
+-- a piece from a position on, as it is lent
+pub rest-all : (piece : List ℕ) (at : ℕ) → take (length piece - at) (drop at piece) ≡ drop at piece
+rest-all piece at = take-all (length piece - at) (drop at piece) (simp length-drop (omega arith))
 
 pub kept-none : (carry tag : List ℕ) (p : Place) → keptIn carry (emptied tag p) ≡ carry
 kept-none carry tag p = sym (paste-zero carry 0 (replicate 200 0))

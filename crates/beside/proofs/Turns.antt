@@ -24,13 +24,14 @@ use Rattle.rules.specs.declared.Verdict.{Verdict}
 use Rattle.rules.specs.declared.Verdict.the-variants as verdict
 use Rattle.reader.specs.Stream.{noRecord, settledBy, settled, stoppedBy, lacking, stepOf}
 use Rattle.carry.specs.Carry.{carryIn}
-use Rattle.beside.specs.Beside.{lend, haltBy}
+use Rattle.beside.specs.Beside.{lend, keptIn, haltBy}
 use Rattle.beside.specs.Rows.{rowIn, isRecord, answered, endedBy, Reading, nextStep, reads, tooShort, readFor, bareRead, lentBy, readWith}
 use Rattle.reader.specs.declared.Reader.{Reader}
 use Rattle.beside.specs.declared.Bare.{Bare}
 use Rattle.reader.specs.declared.Step.{Step}
+use Rattle.beside.specs.declared.Read.{Read}
 use Rattle.reader.specs.declared.Said.the-variants as said
-use Rattle.reader.proofs.Calls.{either, step-none, step-kept, step-settled, no-more}
+use Rattle.reader.proofs.Calls.{either, step-none, step-kept, step-settled}
 
 -- ## Where the calls begin
 
@@ -50,6 +51,11 @@ module _ (b : Bare) (carry piece table : List ℕ) where
   pub with-carry : 200 ≤ length carry → {x : Reading} → readFor (lend b carry) piece table ≡ x → readWith b carry piece table ≡ lentBy carry x
   unfolding readWith
   with-carry l e = rw (le-ltb _ _ l, e)
+
+-- what a read gives, where the reading is known
+pub ends : (carry : List ℕ) {all x : Reading} → all ≡ x → {r : Read} {carry' table' : List ℕ} → r ≡ bareRead (x .answer) → carry' ≡ keptIn carry (x .answer .reader) → table' ≡ x .table
+    → (r ≡ bareRead (all .answer)) × (carry' ≡ keptIn carry (all .answer .reader)) × (table' ≡ all .table)
+ends carry e p q t = rw e (p, q, t)
 
 -- ## The turns of the definition
 
@@ -142,9 +148,6 @@ module _ {carry piece tag table₀ : List ℕ} {all : Reading} {table : List ℕ
 
   pub full : left ≤ 0 → all ≡ record { answer = answered here taken count said.Record; table = table }
   full h = sym (l .rest) ∙ full-by left here piece taken count table h
-
-  pub within : taken + stepOf here (drop taken piece) .answer .taken ≤ length piece
-  within = omega (arith, l .inside, simp length-drop at (no-more here (drop taken piece)))
 
   pub halted : 0 < left → haltBy (sizeOf place) (sizeOf place - have) (length piece - taken) ≡ true
       → all ≡ record { answer = endedBy (stepOf here (drop taken piece)) taken count; table = table }

@@ -10,54 +10,62 @@ use carry::missing;
 use reader::Said;
 use reader::steps::after_fault;
 use rules::Place;
-use rules::Record;
 use rules::Refusal;
 use words::Footer;
+use words::Words;
 use words::number::joined;
 ghost use mathlib.Core.Path.{_≡_};
-ghost use Prim.Native.Nat.{_+_, _-_, _≤_, _<_};
-ghost use lib.ListN.{length, drop};
+ghost use mathlib.Core.Bool.{true};
+ghost use mathlib.Core.List.{[], _∷_};
+ghost use Prim.Native.Nat.{_+_, _-_, _*_, _≤_, _<_};
+ghost use lib.ListN.{length, drop, getD};
 ghost use lib.Seq.{paste};
-ghost use Rattle.words.specs.Le.{puts};
-ghost use Rattle.rules.specs.Rules.{sizeOf, wordsIn, faultIn};
-ghost use Rattle.rules.specs.Verdicts.{refusalAt};
+ghost use Rattle.words.specs.Le.{puts, long};
+ghost use Rattle.rules.specs.Rules.{sizeOf, wordsIn, faultIn, recordOf};
+ghost use Rattle.rules.specs.Verdicts.{refused, refusalAt};
+ghost use Rattle.reader.specs.Stream.{noRecord, settledBy};
 ghost use Rattle.carry.specs.Carry.{upTo, carryIn};
-ghost use Rattle.beside.specs.Rows.{rowIn, readWith};
+ghost use Rattle.beside.specs.Beside.{lend, keptIn, haltBy};
+ghost use Rattle.beside.specs.Rows.{rowIn, endedBy, nextStep, readFor, bareRead, lentBy, readWith};
 ghost use Rattle.reader.specs.declared.Said.the-variants as said;
 
 // The numbers of a row.
 const ROW: usize = 9;
 
-// A record, into nine numbers of the table.
-fn put_row(table: &mut [u64], at: usize, r: Record)
-    requires { ⌜ at + 9 ≤ length (now table) ⌝ }
-    ensures { λ _. ⌜ now (table .exit) ≡ puts (now (table .entry)) at (rowIn r) ⌝ }
+// Three numbers of the table.
+fn put_three(table: &mut [u64], at: usize, a: u64, b: u64, c: u64)
+    requires { ⌜ at + 3 ≤ length (now table) ⌝ }
+    ensures { λ _. ⌜ now (table .exit) ≡ puts (now (table .entry)) at (a ∷ b ∷ c ∷ []) ⌝ }
 {
-    let w = r.words;
+    let p1 = at + 1;
+    let p2 = p1 + 1;
+    table[at] = a;
+    table[p1] = b;
+    table[p2] = c;
+}
+
+// A record's words, into six numbers of the table.
+fn put_words(table: &mut [u64], at: usize, w: Words)
+    requires { ⌜ at + 6 ≤ length (now table) ⌝ }
+    ensures { λ _. ⌜ now (table .exit) ≡ puts (now (table .entry)) at (getD (w .hash) 0 0 ∷ getD (w .hash) 1 0 ∷ getD (w .hash) 2 0 ∷ getD (w .hash) 3 0 ∷ long (w .a) (w .b) ∷ long (w .c) (w .d) ∷ []) ⌝ }
+{
     let hash = w.hash;
+    put_three(table, at, hash[0], hash[1], hash[2]);
+    put_three(table, at + 3, hash[3], joined(w.a, w.b), joined(w.c, w.d));
+}
+
+// The record of these words, into a row of the table.
+fn put_row(table: &mut [u64], count: usize, place: Place, w: Words)
+    requires { ⌜ 9 * count + 9 ≤ length (now table) ⌝ }
+    ensures { λ _. ⌜ now (table .exit) ≡ puts (now (table .entry)) (9 * count) (rowIn (recordOf place w)) ⌝ }
+{
+    let r = place.record(w);
     let start = r.at;
     let offset = r.offset;
     let k = r.kind;
-    let row = k.row();
-    let ab = joined(w.a, w.b);
-    let cd = joined(w.c, w.d);
-    let p1 = at + 1;
-    let p2 = p1 + 1;
-    let p3 = p2 + 1;
-    let p4 = p3 + 1;
-    let p5 = p4 + 1;
-    let p6 = p5 + 1;
-    let p7 = p6 + 1;
-    let p8 = p7 + 1;
-    table[at] = row as u64;
-    table[p1] = start.0;
-    table[p2] = offset.0;
-    table[p3] = hash[0];
-    table[p4] = hash[1];
-    table[p5] = hash[2];
-    table[p6] = hash[3];
-    table[p7] = ab;
-    table[p8] = cd;
+    let at = ROW * count;
+    put_three(table, at, k.row() as u64, start.0, offset.0);
+    put_words(table, at + 3, w);
 }
 
 // What the bytes say of the record due, from a position of the piece on.
@@ -98,6 +106,23 @@ fn ended(s: Call, taken: usize, count: usize) -> Read
     answer(reader, taken + last.taken, count, said)
 }
 
+// What is answered where no whole record is found behind the bytes taken.
+fn halted(b: Bare, carry: &mut [u8], piece: &[u8], taken: usize, count: usize) -> Read
+    requires { ⌜ (200 ≤ length (now carry)) × (taken ≤ length (now piece)) × (haltBy (sizeOf (b .place)) (sizeOf (b .place) - b .have) (length (now piece) - taken) ≡ true) ⌝ }
+    ensures { λ r. ⌜ (r ≡ bareRead (endedBy (nextStep (lend b (now (carry .entry))) (now (piece .entry)) taken) taken count)) × (now (carry .exit) ≡ keptIn (now (carry .entry)) (nextStep (lend b (now (carry .entry))) (now (piece .entry)) taken .reader)) ⌝ }
+{
+    ended(b.halt(carry, &piece[taken..]), taken, count)
+}
+
+// What is answered where the record there is refused.
+fn failed(b: Bare, place: Place, number: u32, lacks: usize, taken: usize, count: usize) -> Read
+    requires { ⌜ taken + lacks < 18446744073709551616 ⌝ }
+    ensures { λ r. ⌜ r ≡ bareRead (endedBy (settledBy (b .tag) (refused number place) noRecord (said.Refused (refusalAt number place)) lacks) taken count) ⌝ }
+{
+    let sequel = after_fault(place, number);
+    ended(b.settle(sequel, lacks), taken, count)
+}
+
 fn too_short(reader: Bare) -> Read
     ensures { λ r. ⌜ r ≡ record { reader = reader; taken = 0; count = 0; said = said.Refused (refusalAt 15 (reader .place)) } ⌝ }
 {
@@ -116,9 +141,16 @@ impl Bare {
         if table.len() < ROW {
             return too_short(self);
         }
+        self.rows(carry, piece, table)
+    }
+
+    // The rows of a piece, where what is lent is long enough.
+    fn rows(self, carry: &mut [u8], piece: &[u8], table: &mut [u64]) -> Read
+        requires { ⌜ (200 ≤ length (now carry)) × (9 ≤ length (now table)) ⌝ }
+        ensures { λ r. ⌜ (r ≡ lentBy (now (carry .entry)) (readFor (lend self (now (carry .entry))) (now (piece .entry)) (now (table .entry))) .answer) × (now (carry .exit) ≡ lentBy (now (carry .entry)) (readFor (lend self (now (carry .entry))) (now (piece .entry)) (now (table .entry))) .carry) × (now (table .exit) ≡ lentBy (now (carry .entry)) (readFor (lend self (now (carry .entry))) (now (piece .entry)) (now (table .entry))) .table) ⌝ }
+    {
         let tag = self.tag;
-        let start = self.place;
-        let mut place = start;
+        let mut place = self.place;
         let mut have = self.have;
         let mut taken = 0;
         let mut count = 0;
@@ -128,18 +160,15 @@ impl Bare {
             let size = due.size();
             let lacks = missing(size, have);
             if halts(size, lacks, piece.len() - taken) {
-                let b = Bare { have, tag, place };
-                return ended(b.halt(carry, &piece[taken..]), taken, count);
+                return halted(Bare { have, tag, place }, carry, piece, taken, count);
             }
             let heard = hear_at(carry, have, tag, place, piece, taken, lacks);
             let w = heard.words;
             if heard.number != 0 {
-                let sequel = after_fault(place, heard.number);
-                return ended(self.settle(sequel, lacks), taken, count);
+                return failed(self, place, heard.number, lacks, taken, count);
             }
-            put_row(table, ROW * count, place.record(w));
-            let next = place.next(w);
-            place = next;
+            put_row(table, count, place, w);
+            place = place.next(w);
             have = 0;
             taken += lacks;
             count += 1;

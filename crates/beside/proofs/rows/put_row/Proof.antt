@@ -1,79 +1,30 @@
--- `put_row` meets its contract: the nine stores are those of `puts`. Assumes nothing.
-use native.Mathlib.Omega.{arith}
-use lib.ListN.{length-set}
-use Rattle.words.specs.Le.{puts}
+-- `put_row` meets its contract: three numbers and the six of the words, stored one after the other, are one run of nine. Assumes nothing.
+use mathlib.Core.Path.{refl}
+use Rattle.rules.specs.Rules.{recordOf}
+use Rattle.words.proofs.Stores.{puts-then}
 use borrow.Author.Needs.{needs}
 use Rattle.beside.proofs.rows.put_row.Statement.{statement}
 use Rattle.beside.proofs.rows.put_row.Tie as tie
 
-slice-write-table-2 : tie.Need-slice-write-table-2
-slice-write-table-2 c = simp length-set (omega arith)
-
-slice-write-table-3 : tie.Need-slice-write-table-3
-slice-write-table-3 c = simp length-set (omega arith)
-
-slice-write-table-4 : tie.Need-slice-write-table-4
-slice-write-table-4 c = simp length-set (omega arith)
-
-slice-write-table-5 : tie.Need-slice-write-table-5
-slice-write-table-5 c = simp length-set (omega arith)
-
-slice-write-table-6 : tie.Need-slice-write-table-6
-slice-write-table-6 c = simp length-set (omega arith)
-
-slice-write-table-7 : tie.Need-slice-write-table-7
-slice-write-table-7 c = simp length-set (omega arith)
-
-slice-write-table-8 : tie.Need-slice-write-table-8
-slice-write-table-8 c = simp length-set (omega arith)
-
-slice-write-table-9 : tie.Need-slice-write-table-9
-slice-write-table-9 c = simp length-set (omega arith)
-
-same-length : tie.Need-same-length
-same-length c = simp length-set
-
 returns : tie.Need-returns
-unfolding puts
-returns c = rw (c .joined2 .ensures, c .before .joined .ensures, c .before .before .row .ensures)
+unfolding recordOf
+returns c =
+    let c1 = c .before .before in
+    let c2 = c1 .before .before .before .before in
+    let c3 = c2 .before in
+    let c4 = c3 .before .before .before .before in
+    puts-then 3 _ _ _ _ refl (rw (c3 .row .ensures, c4 .«record» .ensures) at (c2 .put-three .ensures)) (c1 .put-words .ensures)
 
 pub put-row-spec : {M : Type 1} → statement M
 put-row-spec =
     tie.close
     (tie.spec
     (λ c. λ κs. search needs)
+    (λ c. search needs)
     (λ c. λ κs. search needs)
+    (λ c. search needs)
     (λ c. λ κs. search needs)
     (λ c. search needs)
+    (λ c. λ κs. search needs)
     (λ c. search needs)
-    (λ c. search needs)
-    (λ c. search needs)
-    (λ c. search needs)
-    (λ c. search needs)
-    (λ c. search needs)
-    (λ c. search needs)
-    (λ c. search needs)
-    (λ c. search needs)
-    (λ c. search needs)
-    (λ c. search needs)
-    slice-write-table-2
-    (λ c. search needs)
-    slice-write-table-3
-    (λ c. search needs)
-    (λ c. search needs)
-    slice-write-table-4
-    (λ c. search needs)
-    (λ c. search needs)
-    slice-write-table-5
-    (λ c. search needs)
-    (λ c. search needs)
-    slice-write-table-6
-    (λ c. search needs)
-    (λ c. search needs)
-    slice-write-table-7
-    (λ c. search needs)
-    slice-write-table-8
-    (λ c. search needs)
-    slice-write-table-9
-    same-length
     returns)
