@@ -98,6 +98,8 @@ wrongs =
     -- kind 9 taken for a footer
     ∷ (writtenFor (writer atFooter) (offered 9) 200 .answer not answer.Wrote 200 by answerTold)
     ∷ (bufferFor (writer atFooter) (offered 9) (zeros 200) not bufferFor (writer atFooter) (offered 8) (zeros 200) by numbers)
+    -- a kind that is known refused
+    ∷ (writtenFor (writer atFooter) (offered 8) 200 .answer not answer.Refused (refusalAt 16 atFooter) by answerTold)
     -- ## `written_out`
     -- a refused offer said to have been written
     ∷ (writtenOut rejected .wrote not 48 by number)

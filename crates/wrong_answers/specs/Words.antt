@@ -2,16 +2,20 @@
 use mathlib.Core.Path.{refl}
 use mathlib.Core.Bool.{true}
 use mathlib.Core.List.{List, [], _∷_, _++_}
-use Prim.Native.Nat.{_-_}
+use Prim.Native.Nat.{ℕ, _-_}
 use lib.ListN.{drop}
 use lib.Seq.{paste}
 use Rattle.words.specs.Le.{leAt, spell, zerosAt}
-use Rattle.words.specs.Record.{spellHash, spellWords, footerAt}
+use Rattle.words.specs.Record.{spellHash, spellWords, footerAt, sameHash, isOnes}
 use Rattle.rules.specs.Rules.{wordsIn}
 use Rattle.carry.specs.Carry.{carryIn}
+use Rattle.layout.specs.Quay.{hash}
 use Rattle.wrong_answers.specs.Wrong.{Wrong, _not_by_, Refuted, refuted}
 use Rattle.wrong_answers.specs.Told.{number, numbers, truth}
 use Rattle.wrong_answers.specs.Inputs.{words, zeros, atSegment, goodSegment}
+
+abbrev ones64 : ℕ
+ones64 = 18446744073709551615
 
 abbrev wrongs : List Wrong
 wrongs =
@@ -23,6 +27,14 @@ wrongs =
     ∷ (spellWords (words 1 2 3 4) not spellWords (words 1 3 2 4) by numbers)
     -- `Footer::read`: the second reserved area is not looked at
     ∷ (footerAt (zeros 120 ++ (1 ∷ zeros 79)) 0 .clean not true by truth)
+    -- `same_hash`: the last number not compared
+    ∷ (sameHash hash (1 ∷ 2 ∷ 3 ∷ 5 ∷ []) not true by truth)
+    -- `same_hash`: one number that is the same is enough
+    ∷ (sameHash hash (1 ∷ 6 ∷ 7 ∷ 8 ∷ []) not true by truth)
+    -- `is_ones`: the last number not compared
+    ∷ (isOnes (ones64 ∷ ones64 ∷ ones64 ∷ 0 ∷ []) not true by truth)
+    -- `is_ones`: a bit short of all ones
+    ∷ (isOnes ((ones64 - 1) ∷ ones64 ∷ ones64 ∷ ones64 ∷ []) not true by truth)
     -- `missing`: what the carry has is not taken off
     ∷ (48 - 10 not 48 by number)
     -- `hear`: a byte in the carry is passed over
