@@ -11,23 +11,24 @@ use native.Mathlib.Omega.{arith}
 use lib.Dec.{eqb, ltb}
 use lib.ListN.{length, drop, length-drop}
 use lib.Seq.{paste}
-use borrow.Author.Tests.{eq-eqb, ne-eqb, lt-ltb, le-ltb, eqb-true, eqb-false, ltb-true, ltb-false}
+use borrow.Author.Tests.{lt-ltb, le-ltb, eqb-true, eqb-false, ltb-true, ltb-false}
 use Rattle.words.specs.Checks.{pick}
 use Rattle.words.specs.Le.{puts}
 use Rattle.words.specs.declared.Words.{Words}
 use Rattle.words.proofs.Stores.{length-puts}
 use Rattle.rules.specs.Rules.{sizeOf, wordsIn, faultIn, nextOf, recordOf}
 use Rattle.rules.specs.Held.{held}
-use Rattle.rules.specs.Verdicts.{refused, refusalAt, verdictAt}
+use Rattle.rules.specs.Verdicts.{verdictAt}
 use Rattle.rules.specs.declared.Place.{Place}
 use Rattle.rules.specs.declared.Verdict.{Verdict}
 use Rattle.rules.specs.declared.Verdict.the-variants as verdict
-use Rattle.reader.specs.Stream.{noRecord, settledBy, settled, stoppedBy, lacking, stepOf}
-use Rattle.carry.specs.Carry.{carryIn}
+use Rattle.reader.specs.Stream.{settled, stoppedBy, lacking, stepOf}
 use Rattle.beside.specs.Beside.{lend, keptIn, haltBy}
 use Rattle.beside.specs.Rows.{rowIn, isRecord, answered, endedBy, Reading, nextStep, reads, tooShort, readFor, bareRead, lentBy, readWith}
 use Rattle.reader.specs.declared.Reader.{Reader}
+use Rattle.beside.specs.Turns.{passedBy, NoRecord, Foretells}
 use Rattle.beside.specs.declared.Bare.{Bare}
+use Rattle.beside.specs.declared.reading.Look.{Look}
 use Rattle.reader.specs.declared.Step.{Step}
 use Rattle.beside.specs.declared.Read.{Read}
 use Rattle.reader.specs.declared.Said.the-variants as said
@@ -114,66 +115,70 @@ whole-there size lacks left e = go (eqb size 0) refl e
     go true i k = let m : _≡_ {A = ℕ} 0 1 = ap (λ (t : Bool). pick t 0 1) k in absurd (omega arith)
     go false i k = let z : size ≡ 0 → ⊥ = eqb-false _ _ i in (omega arith, ltb-false _ _ k)
 
--- what is found of the numbers of a turn holds of the reader's
-module _ (p : Place) (have left : ℕ) {size lacks : ℕ} {t : Bool} (s : size ≡ sizeOf p) (m : lacks ≡ size - have) (h : t ≡ haltBy size lacks left) where
-  lack : lacks ≡ sizeOf p - have
+-- ## What a look foretells
+
+module _ (r : Reader) (rest : List ℕ) {size lacks : ℕ} {t : Bool} (s : size ≡ sizeOf (r .place)) (m : lacks ≡ size - r .have) (h : t ≡ haltBy size lacks (length rest)) where
+  lack : lacks ≡ lacking r
   lack = rw s at m
 
-  pub halt-here : t ≡ true → haltBy (sizeOf p) (sizeOf p - have) left ≡ true
-  halt-here e = rw (← lack, ← s) (sym h ∙ e)
+  pub none-there : t ≡ true → haltBy (sizeOf (r .place)) (lacking r) (length rest) ≡ true
+  none-there e = rw (← lack, ← s) (sym h ∙ e)
 
-  pub whole-here : t ≡ false → (lacks ≡ sizeOf p - have) × (0 < sizeOf p) × (lacks ≤ left)
-  whole-here e = let w = whole-there size lacks left (sym h ∙ e) in (lack, rw s at (w .0), w .1)
+  pub all-there : t ≡ false → (lacks ≡ lacking r) × (0 < sizeOf (r .place)) × (lacks ≤ length rest)
+  all-there e = let w = whole-there size lacks (length rest) (sym h ∙ e) in (lack, rw s at (w .0), w .1)
+
+  pub unfinished-foretells : t ≡ true → {x : Look} → x .good ≡ false → x .number ≡ 0 → Foretells r rest x
+  unfinished-foretells e {x} g z = record {
+    good = λ i. let m : _≡_ {A = ℕ} 0 1 = ap (λ (b : Bool). pick b 0 1) (sym i ∙ g) in absurd (omega arith);
+    other = λ i. record { none = λ j. none-there e; faulty = λ n. absurd (n z) };
+  }
+
+  module _ (e : t ≡ false) {w : Words} (u : w ≡ wordsIn (r .place) (paste (r .carry) (r .have) rest lacks))
+      {number : ℕ} (v : number ≡ faultIn (r .tag) (r .place) (paste (r .carry) (r .have) rest lacks)) where
+    pub judged-foretells : {x : Look} → x ≡ record { words = w; lacks = lacks; number = number; good = eqb number 0 } → Foretells r rest x
+    judged-foretells q = rw q (record {
+      good = λ i. (there .2, settles ∙ rw i);
+      other = λ i. record { none = λ z. absurd (eqb-false _ _ i z); faulty = λ n. (rw (there .0) at (there .2), settles ∙ rw (i, there .0)) };
+    })
+      where
+        there : (lacks ≡ lacking r) × (0 < sizeOf (r .place)) × (lacks ≤ length rest)
+        there = all-there e
+
+        settles : stepOf r rest ≡ settled r w number lacks
+        settles = step-settled r rest (there .1) (there .0) (there .2) u v
+
+-- a call that hands out no record says so
+silent-then : (r : Reader) (rest : List ℕ) (number : ℕ) → NoRecord r rest number → isRecord (stepOf r rest .answer .said) ≡ false
+silent-then r rest zero n = halt-silent r rest (n .none refl)
+silent-then r rest (suc k) n = rw (n .faulty (λ e. omega arith) .1)
 
 -- ## The loop
 
 -- a state of the loop: room for the rows left, no byte taken that is not there, and what is still read is what all of it reads
-pub record Loop (carry piece tag table₀ : List ℕ) (all : Reading) (table : List ℕ) (place : Place) (have taken count left : ℕ) : Type 0 where
+pub record Loop (carry piece table₀ : List ℕ) (all : Reading) (b : Bare) (table : List ℕ) (taken count left : ℕ) : Type 0 where
   pub room : 9 * count + 9 * left ≤ length table₀
   pub same : length table ≡ length table₀
   pub inside : taken ≤ length piece
-  pub rest : reads left (lend (record { have = have; tag = tag; place = place }) carry) piece taken count table ≡ all
+  pub rest : reads left (lend b carry) piece taken count table ≡ all
 
-pub begins : (b : Bare) (carry piece table : List ℕ) → 9 ≤ length table
-    → Loop carry piece (b .tag) table (readFor (lend b carry) piece table) table (b .place) (b .have) 0 0 (length table / 9)
+pub begins : (b : Bare) (carry piece table : List ℕ) → 9 ≤ length table → Loop carry piece table (readFor (lend b carry) piece table) b table 0 0 (length table / 9)
 begins b carry piece table l = record { room = omega arith; same = refl; inside = omega arith; rest = sym (long (lend b carry) piece table l) }
 
-module _ {carry piece tag table₀ : List ℕ} {all : Reading} {table : List ℕ} {place : Place} {have taken count left : ℕ}
-    (l : Loop carry piece tag table₀ all table place have taken count left) where
-  abbrev pub here : Reader
-  here = lend (record { have = have; tag = tag; place = place }) carry
+module _ {carry piece table₀ : List ℕ} {all : Reading} {b : Bare} {table : List ℕ} {taken count left : ℕ} (l : Loop carry piece table₀ all b table taken count left) where
+  pub full : left ≤ 0 → all ≡ record { answer = answered (lend b carry) taken count said.Record; table = table }
+  full h = sym (l .rest) ∙ full-by left (lend b carry) piece taken count table h
 
-  abbrev pub failed : ℕ → ℕ → Step
-  failed number lacks = settledBy tag (refused number place) noRecord (said.Refused (refusalAt number place)) lacks
+  pub over : 0 < left → (number : ℕ) → NoRecord (lend b carry) (drop taken piece) number
+      → all ≡ record { answer = endedBy (nextStep (lend b carry) piece taken) taken count; table = table }
+  over h number n =
+      sym (l .rest) ∙ over-by left (lend b carry) piece taken count table h (nextStep (lend b carry) piece taken) refl (silent-then (lend b carry) (drop taken piece) number n)
 
-  pub full : left ≤ 0 → all ≡ record { answer = answered here taken count said.Record; table = table }
-  full h = sym (l .rest) ∙ full-by left here piece taken count table h
-
-  pub halted : 0 < left → haltBy (sizeOf place) (sizeOf place - have) (length piece - taken) ≡ true
-      → all ≡ record { answer = endedBy (stepOf here (drop taken piece)) taken count; table = table }
-  halted h e = sym (l .rest) ∙ over-by left here piece taken count table h (stepOf here (drop taken piece)) refl (halt-silent here (drop taken piece) (rw length-drop e))
-
-  module _ {lacks : ℕ} (there : (lacks ≡ sizeOf place - have) × (0 < sizeOf place) × (lacks ≤ length piece - taken))
-      {w : Words} (u : w ≡ wordsIn place (paste (carryIn carry have) have (drop taken piece) lacks))
-      {number : ℕ} (v : number ≡ faultIn tag place (paste (carryIn carry have) have (drop taken piece) lacks)) where
-    step-here : stepOf here (drop taken piece) ≡ settled here w number lacks
-    step-here = step-settled here (drop taken piece) (there .1) (there .0) (simp length-drop (omega (arith, there .2))) u v
-
-    pub refuses : 0 < left → (number ≡ 0 → ⊥) → all ≡ record { answer = endedBy (failed number lacks) taken count; table = table }
-    refuses h n =
-        let f : settled here w number lacks ≡ failed number lacks = rw (ne-eqb number 0 n) in
-        sym (l .rest) ∙ over-by left here piece taken count table h (failed number lacks) (step-here ∙ f) refl
-
-    pub on : 0 < left → number ≡ 0 → {next : Place} → next ≡ held (nextOf place w) → {table' : List ℕ} → table' ≡ puts table (9 * count) (rowIn (recordOf place w))
-        → Loop carry piece tag table₀ all table' next 0 (taken + lacks) (count + 1) (left - 1)
-    on h z {next} n {table'} q =
-        let f : settled here w number lacks ≡ passed = rw (eq-eqb number 0 z) in
-        record {
-          room = omega (arith, l .room);
-          same = rw (q, length-puts table (9 * count) (rowIn (recordOf place w))) (l .same);
-          inside = omega (arith, l .inside, there .2);
-          rest = rw (q, n) (sym (on-by left here piece taken count table h passed (step-here ∙ f) refl) ∙ l .rest);
-        }
-      where
-        passed : Step
-        passed = settledBy tag (held (nextOf place w)) (recordOf place w) said.Record lacks
+  pub on : 0 < left → (w : Words) (lacks : ℕ) → (lacks ≤ length (drop taken piece)) × (nextStep (lend b carry) piece taken ≡ passedBy (lend b carry) w lacks)
+      → {next : Place} → next ≡ held (nextOf (b .place) w) → {table' : List ℕ} → table' ≡ puts table (9 * count) (rowIn (recordOf (b .place) w))
+      → Loop carry piece table₀ all (record { have = 0; tag = b .tag; place = next }) table' (taken + lacks) (count + 1) (left - 1)
+  on h w lacks f {next} n {table'} q = record {
+    room = omega (arith, l .room);
+    same = rw (q, length-puts table (9 * count) (rowIn (recordOf (b .place) w))) (l .same);
+    inside = omega (arith, l .inside, rw length-drop at (f .0));
+    rest = rw (q, n) (sym (on-by left (lend b carry) piece taken count table h (passedBy (lend b carry) w lacks) (f .1) refl) ∙ l .rest);
+  }

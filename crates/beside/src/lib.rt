@@ -5,6 +5,7 @@ use reader::Said;
 use rules::Place;
 
 mod calls;
+mod reading;
 mod rows;
 
 // A reader without its carry: how many bytes the carry has, the tag, and the place.

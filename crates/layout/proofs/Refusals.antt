@@ -5,11 +5,11 @@ use mathlib.Core.List.{List, [], _∷_}
 use Prim.Native.Nat.{ℕ, _+_, _-_, _<_}
 use native.Mathlib.Omega.{arith}
 use lib.ListN.{length, take}
-use borrow.Author.Tests.{eq-eqb, ne-eqb}
+use borrow.Author.Tests.{eqb-true, eqb-false}
 use Rattle.words.specs.Record.{hashAt, isOnes}
 use Rattle.words.specs.declared.Words.{Words}
 use Rattle.cut.specs.Fate.{none, Reads, Ending, more}
-use Rattle.cut.specs.Format.{State, Run, run, at}
+use Rattle.cut.specs.Format.{State, Run, run, at, stopped}
 use Rattle.cut.proofs.Runs.{run-stopped}
 use Rattle.cut.proofs.Fate.{fate}
 use Rattle.cut.specs.Fate as fates
@@ -21,7 +21,7 @@ use Rattle.rules.specs.declared.Due.{Due}
 use Rattle.rules.specs.declared.Due.the-variants.{Header, FileHead, Segment, Verification, Metadata, XorbHead, Chunk, Footer, End, Refused}
 use Rattle.rules.specs.declared.Verdict.the-variants as verdict
 use Rattle.layout.specs.Refusal.{Ends, FateClaim, tagRefused, early, done, over, faulty}
-use Rattle.layout.specs.Scan.{format, scan, verdictOf, foundIn}
+use Rattle.layout.specs.Scan.{format, begin, scan, verdictOf, foundIn}
 use Rattle.layout.proofs.Judged.{bad-is, good-is}
 use Rattle.layout.proofs.Places.{pick-by, many-by}
 
@@ -109,9 +109,16 @@ ends-by tag p rest v (fates.faulty f l g j) =
     let (n, e) = bad-is tag p f (take (sizeOf p) rest) j in
     subst (λ (x : Place). Ends tag p rest (verdictAt x)) (sym e) (faulty l g n)
 
+-- a tag of 32 bytes begins at the start, and no other does
+begins : (tag : List ℕ) → length tag ≡ 32 → begin tag ≡ at start []
+begins tag n = pick-by (λ s. s ≡ at start []) _ _ _ (λ e. refl) (λ e. absurd (eqb-false _ _ e n))
+
+begins-not : (tag : List ℕ) → length tag ≢ 32 → begin tag ≡ stopped (refused 2 start)
+begins-not tag n = pick-by (λ s. s ≡ stopped (refused 2 start)) _ _ _ (λ e. absurd (n (eqb-true _ _ e))) (λ e. refl)
+
 pub scan-starts : (tag : List ℕ) → length tag ≡ 32 → (bytes : List ℕ) → scan tag bytes ≡ run (format (hashAt tag 0)) (at start []) bytes
 unfolding scan
-scan-starts tag n bytes = rw (eq-eqb (length tag) 32 n)
+scan-starts tag n bytes = rw (begins tag n)
 
 pub refusals : (tag : List ℕ) → length tag ≡ 32 → (bytes : List ℕ) → FateClaim tag bytes
 unfolding foundIn
@@ -130,4 +137,4 @@ refusals tag n bytes =
 
 pub bad-tag : (tag : List ℕ) → length tag ≢ 32 → (bytes : List ℕ) → foundIn tag bytes ≡ tagRefused
 unfolding foundIn scan verdictAt
-bad-tag tag n bytes = rw (ne-eqb (length tag) 32 n, run-stopped (format (hashAt tag 0)) (refused 2 start) bytes)
+bad-tag tag n bytes = rw (begins-not tag n, run-stopped (format (hashAt tag 0)) (refused 2 start) bytes)

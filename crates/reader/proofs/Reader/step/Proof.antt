@@ -1,25 +1,27 @@
 -- `step` meets its contract: what is due and the length of the piece decide, in the order of the definition. Assumes nothing.
 use mathlib.Core.Path.{sym, _∙_}
 use native.Mathlib.Omega.{arith}
-use borrow.Author.Tests.{eq-eqb, ne-eqb, lt-ltb}
-use Rattle.reader.specs.Stream.{stepOf}
-use Rattle.reader.proofs.Calls.{step-settled}
+use Rattle.reader.proofs.Calls.{step-none, step-kept, step-settled}
 use borrow.Author.Needs.{needs}
 use Rattle.reader.proofs.Reader.step.Statement.{statement}
 use Rattle.reader.proofs.Reader.step.Tie as tie
 
 returns : tie.Need-returns
-unfolding stepOf
-returns c = rw (c .stop .ensures, eq-eqb _ _ (sym (c .before .before .size .ensures) ∙ c .before .if1 .taken))
+returns c =
+    let c1 = c .before in
+    let c2 = c1 .before in
+    let c3 = c2 .before .before .before .before .before in
+    let a = c3 .args in
+    c .stop .ensures ∙ sym (step-none (a .self) (a .piece .now) (sym (c2 .size .ensures) ∙ c1 .if1 .taken))
 
 returns-2 : tie.Need-returns-2
-unfolding stepOf
 returns-2 c =
     let c1 = c .before in
     let c2 = c1 .before in
-    let c3 = c2 .before in
-    let c4 = c3 .before in
-    rw (c .keep .ensures, ne-eqb _ _ (λ e. c3 .if1 .left (c4 .size .ensures ∙ e)), lt-ltb _ _ (rw (c2 .missing .ensures, c4 .size .ensures) at (c1 .if2 .taken)))
+    let c3 = c2 .before .before in
+    let c4 = c3 .before .before .before .before .before in
+    let a = c4 .args in
+    c .keep .ensures ∙ sym (step-kept (a .self) (a .piece .now) (omega (arith, c2 .missing .ensures, c3 .size .ensures, c1 .if2 .taken)))
 
 returns-3 : tie.Need-returns-3
 returns-3 c =

@@ -1,7 +1,7 @@
 -- `too_short` meets its contract: it is refused where the reader stands. Assumes nothing.
 use borrow.Author.Needs.{needs}
-use Rattle.beside.proofs.rows.too_short.Statement.{statement}
-use Rattle.beside.proofs.rows.too_short.Tie as tie
+use Rattle.beside.proofs.reading.too_short.Statement.{statement}
+use Rattle.beside.proofs.reading.too_short.Tie as tie
 
 returns : tie.Need-returns
 returns c = rw (c .answer .ensures, c .before .refusal .ensures)
