@@ -1,5 +1,5 @@
 -- `hear_held` meets its contract: a record is judged by its own bytes. Assumes nothing.
-use mathlib.Core.Path.{_≡_, _∙_}
+use mathlib.Core.Path.{_≡_}
 use native.Mathlib.Omega.{arith}
 use lib.ListN.{length}
 use Rattle.rules.specs.Rules.{sizeOf, wordsIn, faultIn}
