@@ -11,7 +11,7 @@ ghost use Rattle.rules.specs.Rules.{recordOf};
 ghost use Rattle.beside.specs.Rows.{rowIn};
 
 // The numbers of a row.
-pub const ROW: usize = 9;
+pub(crate) const ROW: usize = 9;
 
 // Three numbers of the table.
 fn put_three(table: &mut [u64], at: usize, a: u64, b: u64, c: u64)
@@ -36,7 +36,7 @@ fn put_words(table: &mut [u64], at: usize, w: Words)
 }
 
 // The record of these words, into a row of the table.
-pub fn put_row(table: &mut [u64], count: usize, place: Place, w: Words)
+pub(crate) fn put_row(table: &mut [u64], count: usize, place: Place, w: Words)
     requires { ⌜ 9 * count + 9 ≤ length (now table) ⌝ }
     ensures { λ _. ⌜ now (table .exit) ≡ puts (now (table .entry)) (9 * count) (rowIn (recordOf place w)) ⌝ }
 {
