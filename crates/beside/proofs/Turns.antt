@@ -1,6 +1,6 @@
 -- The turns of a read: each is one call of `reads`, because it judges the bytes that the carry has and those behind them, and nothing is carried after a
 -- record; and the bytes taken and the rows filled stay within what is there. Assumes nothing.
-use mathlib.Core.Path.{_≡_, refl, sym, ap, _∙_}
+use mathlib.Core.Path.{_≡_, refl, sym, _∙_}
 use mathlib.Core.Logic.{_⊎_, inl, inr}
 use mathlib.Core.Bool.{Bool, true, false}
 use mathlib.Core.List.{List}
@@ -26,7 +26,7 @@ use Rattle.reader.specs.Stream.{settled, stoppedBy, lacking, stepOf}
 use Rattle.beside.specs.Beside.{lend, keptIn, haltBy}
 use Rattle.beside.specs.Rows.{rowIn, isRecord, answered, endedBy, Reading, nextStep, reads, tooShort, readFor, bareRead, lentBy, readWith}
 use Rattle.reader.specs.declared.Reader.{Reader}
-use Rattle.beside.specs.Turns.{passedBy, NoRecord, Foretells}
+use Rattle.beside.specs.Turns.{passedBy, HandsNone, Foretells}
 use Rattle.beside.specs.declared.Bare.{Bare}
 use Rattle.beside.specs.declared.reading.Look.{Look}
 use Rattle.reader.specs.declared.Step.{Step}
@@ -112,7 +112,7 @@ whole-there : (size lacks left : ℕ) → haltBy size lacks left ≡ false → (
 whole-there size lacks left e = go (eqb size 0) refl e
   where
     go : (t : Bool) → eqb size 0 ≡ t → pick t true (ltb left lacks) ≡ false → (0 < size) × (lacks ≤ left)
-    go true i k = let m : _≡_ {A = ℕ} 0 1 = ap (λ (t : Bool). pick t 0 1) k in absurd (omega arith)
+    go true i k = let m : _≡_ {A = ℕ} 0 1 = cc in absurd (omega arith)
     go false i k = let z : size ≡ 0 → ⊥ = eqb-false _ _ i in (omega arith, ltb-false _ _ k)
 
 -- ## What a look foretells
@@ -127,16 +127,16 @@ module _ (r : Reader) (rest : List ℕ) {size lacks : ℕ} {t : Bool} (s : size 
   pub all-there : t ≡ false → (lacks ≡ lacking r) × (0 < sizeOf (r .place)) × (lacks ≤ length rest)
   all-there e = let w = whole-there size lacks (length rest) (sym h ∙ e) in (lack, rw s at (w .0), w .1)
 
-  pub unfinished-foretells : t ≡ true → {x : Look} → x .good ≡ false → x .number ≡ 0 → Foretells r rest x
-  unfinished-foretells e {x} g z = record {
-    good = λ i. let m : _≡_ {A = ℕ} 0 1 = ap (λ (b : Bool). pick b 0 1) (sym i ∙ g) in absurd (omega arith);
+  pub none-foretells : t ≡ true → {x : Look} → x .good ≡ false → x .number ≡ 0 → Foretells r rest x
+  none-foretells e {x} g z = record {
+    good = λ i. let m : _≡_ {A = ℕ} 0 1 = cc in absurd (omega arith);
     other = λ i. record { none = λ j. none-there e; faulty = λ n. absurd (n z) };
   }
 
   module _ (e : t ≡ false) {w : Words} (u : w ≡ wordsIn (r .place) (paste (r .carry) (r .have) rest lacks))
       {number : ℕ} (v : number ≡ faultIn (r .tag) (r .place) (paste (r .carry) (r .have) rest lacks)) where
-    pub judged-foretells : {x : Look} → x ≡ record { words = w; lacks = lacks; number = number; good = eqb number 0 } → Foretells r rest x
-    judged-foretells q = rw q (record {
+    pub whole-foretells : {x : Look} → x ≡ record { words = w; lacks = lacks; number = number; good = eqb number 0 } → Foretells r rest x
+    whole-foretells q = rw q (record {
       good = λ i. (there .2, settles ∙ rw i);
       other = λ i. record { none = λ z. absurd (eqb-false _ _ i z); faulty = λ n. (rw (there .0) at (there .2), settles ∙ rw (i, there .0)) };
     })
@@ -148,7 +148,7 @@ module _ (r : Reader) (rest : List ℕ) {size lacks : ℕ} {t : Bool} (s : size 
         settles = step-settled r rest (there .1) (there .0) (there .2) u v
 
 -- a call that hands out no record says so
-silent-then : (r : Reader) (rest : List ℕ) (number : ℕ) → NoRecord r rest number → isRecord (stepOf r rest .answer .said) ≡ false
+silent-then : (r : Reader) (rest : List ℕ) (number : ℕ) → HandsNone r rest number → isRecord (stepOf r rest .answer .said) ≡ false
 silent-then r rest zero n = halt-silent r rest (n .none refl)
 silent-then r rest (suc k) n = rw (n .faulty (λ e. omega arith) .1)
 
@@ -168,7 +168,7 @@ module _ {carry piece table₀ : List ℕ} {all : Reading} {b : Bare} {table : L
   pub full : left ≤ 0 → all ≡ record { answer = answered (lend b carry) taken count said.Record; table = table }
   full h = sym (l .rest) ∙ full-by left (lend b carry) piece taken count table h
 
-  pub over : 0 < left → (number : ℕ) → NoRecord (lend b carry) (drop taken piece) number
+  pub over : 0 < left → (number : ℕ) → HandsNone (lend b carry) (drop taken piece) number
       → all ≡ record { answer = endedBy (nextStep (lend b carry) piece taken) taken count; table = table }
   over h number n =
       sym (l .rest) ∙ over-by left (lend b carry) piece taken count table h (nextStep (lend b carry) piece taken) refl (silent-then (lend b carry) (drop taken piece) number n)

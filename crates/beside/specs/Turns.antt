@@ -23,10 +23,10 @@ abbrev pub failedBy : Reader → ℕ → Step
 failedBy r number = settledBy (r .tag) (refused number (r .place)) noRecord (said.Refused (refusalAt number (r .place))) (lacking r)
 
 -- the next call hands out no record: none is there, or it is refused with this number
-pub record NoRecord (r : Reader) (rest : List ℕ) (number : ℕ) : Type 0 where
+pub record HandsNone (r : Reader) (rest : List ℕ) (number : ℕ) : Type 0 where
   pub none : number ≡ 0 → haltBy (sizeOf (r .place)) (lacking r) (length rest) ≡ true
   pub faulty : (number ≡ 0 → ⊥) → (lacking r ≤ length rest) × (stepOf r rest ≡ failedBy r number)
 
 pub record Foretells (r : Reader) (rest : List ℕ) (x : Look) : Type 0 where
   pub good : x .good ≡ true → (x .lacks ≤ length rest) × (stepOf r rest ≡ passedBy r (x .words) (x .lacks))
-  pub other : x .good ≡ false → NoRecord r rest (x .number)
+  pub other : x .good ≡ false → HandsNone r rest (x .number)

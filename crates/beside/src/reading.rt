@@ -25,7 +25,7 @@ ghost use lib.ListN.{length, drop};
 ghost use Rattle.rules.specs.Verdicts.{refusalAt};
 ghost use Rattle.beside.specs.Beside.{lend, keptIn, callOf};
 ghost use Rattle.beside.specs.Rows.{endedBy, nextStep, readFor, bareRead, lentBy, readWith};
-ghost use Rattle.beside.specs.Turns.{failedBy, NoRecord, Foretells};
+ghost use Rattle.beside.specs.Turns.{failedBy, HandsNone, Foretells};
 ghost use Rattle.reader.specs.declared.Said.the-variants as said;
 
 // What a look at the record due sees, behind the bytes taken: whether it is whole and good, and then its words and the bytes that it takes of the piece; else the
@@ -38,7 +38,7 @@ struct Look {
 }
 
 // It sees a whole record.
-fn judged(heard: Heard, lacks: usize) -> Look
+fn whole_seen(heard: Heard, lacks: usize) -> Look
     ensures { λ r. ⌜ r ≡ record { words = heard .words; lacks = lacks; number = heard .number; good = eqb (heard .number) 0 } ⌝ }
 {
     let w = heard.words;
@@ -51,7 +51,7 @@ fn judged(heard: Heard, lacks: usize) -> Look
 }
 
 // It sees none.
-fn unfinished() -> Look
+fn none_seen() -> Look
     ensures { λ r. ⌜ (r .good ≡ false) × (r .number ≡ 0) ⌝ }
 {
     let none = NO_RECORD;
@@ -80,9 +80,9 @@ fn look_at(
     let size = due.size();
     let lacks = missing(size, have);
     if halts(size, lacks, piece.len() - taken) {
-        return unfinished();
+        return none_seen();
     }
-    judged(hear(carry, have, tag, place, &piece[taken..], lacks), lacks)
+    whole_seen(hear(carry, have, tag, place, &piece[taken..], lacks), lacks)
 }
 
 fn answer(r: Bare, taken: usize, count: usize, said: Said) -> Read
@@ -167,7 +167,7 @@ impl Bare {
 
 // What is answered after the last call, which hands out no record.
 fn last(b: Bare, number: u32, carry: &mut [u8], piece: &[u8], taken: usize, count: usize) -> Read
-    requires { ⌜ (200 ≤ length (now carry)) × (taken ≤ length (now piece)) × NoRecord (lend b (now carry)) (drop taken (now piece)) number ⌝ }
+    requires { ⌜ (200 ≤ length (now carry)) × (taken ≤ length (now piece)) × HandsNone (lend b (now carry)) (drop taken (now piece)) number ⌝ }
     ensures { λ r. ⌜ (r ≡ bareRead (endedBy (nextStep (lend b (now (carry .entry))) (now (piece .entry)) taken) taken count)) × (now (carry .exit) ≡ keptIn (now (carry .entry)) (nextStep (lend b (now (carry .entry))) (now (piece .entry)) taken .reader)) ⌝ }
 {
     if number == 0 {

@@ -110,15 +110,15 @@ ends-by tag p rest v (fates.faulty f l g j) =
     subst (λ (x : Place). Ends tag p rest (verdictAt x)) (sym e) (faulty l g n)
 
 -- a tag of 32 bytes begins at the start, and no other does
-begins : (tag : List ℕ) → length tag ≡ 32 → begin tag ≡ at start []
-begins tag n = pick-by (λ s. s ≡ at start []) _ _ _ (λ e. refl) (λ e. absurd (eqb-false _ _ e n))
+begin-good : (tag : List ℕ) → length tag ≡ 32 → begin tag ≡ at start []
+begin-good tag n = pick-by (λ s. s ≡ at start []) _ _ _ (λ e. refl) (λ e. absurd (eqb-false _ _ e n))
 
-begins-not : (tag : List ℕ) → length tag ≢ 32 → begin tag ≡ stopped (refused 2 start)
-begins-not tag n = pick-by (λ s. s ≡ stopped (refused 2 start)) _ _ _ (λ e. absurd (n (eqb-true _ _ e))) (λ e. refl)
+begin-bad : (tag : List ℕ) → length tag ≢ 32 → begin tag ≡ stopped (refused 2 start)
+begin-bad tag n = pick-by (λ s. s ≡ stopped (refused 2 start)) _ _ _ (λ e. absurd (n (eqb-true _ _ e))) (λ e. refl)
 
 pub scan-starts : (tag : List ℕ) → length tag ≡ 32 → (bytes : List ℕ) → scan tag bytes ≡ run (format (hashAt tag 0)) (at start []) bytes
 unfolding scan
-scan-starts tag n bytes = rw (begins tag n)
+scan-starts tag n bytes = rw (begin-good tag n)
 
 pub refusals : (tag : List ℕ) → length tag ≡ 32 → (bytes : List ℕ) → FateClaim tag bytes
 unfolding foundIn
@@ -137,4 +137,4 @@ refusals tag n bytes =
 
 pub bad-tag : (tag : List ℕ) → length tag ≢ 32 → (bytes : List ℕ) → foundIn tag bytes ≡ tagRefused
 unfolding foundIn scan verdictAt
-bad-tag tag n bytes = rw (begins-not tag n, run-stopped (format (hashAt tag 0)) (refused 2 start) bytes)
+bad-tag tag n bytes = rw (begin-bad tag n, run-stopped (format (hashAt tag 0)) (refused 2 start) bytes)

@@ -4,7 +4,7 @@ use lib.ListN.{drop, length-drop}
 use Rattle.carry.proofs.Lent.{up-most}
 use Rattle.beside.specs.Beside.{lend}
 use Rattle.beside.proofs.Lending.{rest-all}
-use Rattle.beside.proofs.Turns.{all-there, unfinished-foretells, judged-foretells}
+use Rattle.beside.proofs.Turns.{all-there, none-foretells, whole-foretells}
 use borrow.Author.Needs.{needs}
 use Rattle.beside.proofs.reading.look_at.Statement.{statement}
 use Rattle.beside.proofs.reading.look_at.Tie as tie
@@ -18,7 +18,7 @@ returns c =
     let c5 = c4 .before .before .before in
     let a = c5 .args in
     let r = lend (record { have = a .have; tag = a .tag; place = a .place }) (a .carry .now) in
-    unfinished-foretells r (drop (a .taken) (a .piece .now)) (c4 .size .ensures) (c3 .missing .ensures) (rw length-drop (c2 .halts .ensures)) (c1 .if1 .taken) (c .unfinished .ensures .0) (c .unfinished .ensures .1)
+    none-foretells r (drop (a .taken) (a .piece .now)) (c4 .size .ensures) (c3 .missing .ensures) (rw length-drop (c2 .halts .ensures)) (c1 .if1 .taken) (c .none-seen .ensures .0) (c .none-seen .ensures .1)
 
 hear-requires : tie.Need-hear-requires
 hear-requires c κs =
@@ -43,7 +43,7 @@ returns-2 c =
     let a = c6 .args in
     let r = lend (record { have = a .have; tag = a .tag; place = a .place }) (a .carry .now) in
     let h = rw (rest-all (a .piece .now) (a .taken)) at (c1 .hear .ensures) in
-    judged-foretells r (drop (a .taken) (a .piece .now)) (c5 .size .ensures) (c4 .missing .ensures) (rw length-drop (c3 .halts .ensures)) (c2 .if1 .left) (h .0) (h .1) (c .judged .ensures)
+    whole-foretells r (drop (a .taken) (a .piece .now)) (c5 .size .ensures) (c4 .missing .ensures) (rw length-drop (c3 .halts .ensures)) (c2 .if1 .left) (h .0) (h .1) (c .whole-seen .ensures)
 
 pub look-at-spec : {M : Type 1} → statement M
 look-at-spec =
