@@ -17,7 +17,8 @@ use Rattle.finder.specs.Find.{chunkAt, chunkIn}
 use Rattle.finder.specs.declared.FoundChunk.{FoundChunk}
 use Rattle.finder.specs.declared.FoundChunk.the-variants as chunk
 use Rattle.finder.proofs.Standing.{Stand}
-use Rattle.finder.proofs.Sections.{xorbsThen, Kinds}
+use Rattle.layout.proofs.BlockKinds.{Kinds}
+use Rattle.finder.proofs.Sections.{xorbsThen}
 
 -- a kind that changes nothing for chunks
 abbrev pub NoChunk : Kind → Type 0

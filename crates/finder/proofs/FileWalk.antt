@@ -18,7 +18,8 @@ use Rattle.finder.specs.Find.{fileAt, fileIn}
 use Rattle.finder.specs.declared.FoundFile.{FoundFile}
 use Rattle.finder.specs.declared.FoundFile.the-variants as file
 use Rattle.finder.proofs.Standing.{Stand, stand-behind, placed-then}
-use Rattle.finder.proofs.Sections.{entryRows, filesThen, Kinds, entry-kinds}
+use Rattle.layout.proofs.BlockKinds.{entryRows, Kinds, entry-kinds}
+use Rattle.finder.proofs.Sections.{filesThen}
 
 -- a kind that changes nothing for files
 abbrev pub NoFile : Kind → Type 0

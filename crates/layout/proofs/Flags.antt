@@ -65,10 +65,10 @@ bits-same zero (suc (suc y)) l m e = absurd (omega arith)
 bits-same (suc zero) (suc (suc y)) l m e = absurd (omega arith)
 bits-same (suc (suc x)) y l m e = absurd (omega arith)
 
-bit-same : (f g : ℕ) → bit31 f ≡ bit31 g → same31 f g ≡ true
+pub bit-same : (f g : ℕ) → bit31 f ≡ bit31 g → same31 f g ≡ true
 bit-same f g e = eq-eqb _ _ (bits-same (f / 2147483648 % 2) (g / 2147483648 % 2) (omega arith) (omega arith) e)
 
-same-bit : (f g : ℕ) → same31 f g ≡ true → bit31 f ≡ bit31 g
+pub same-bit : (f g : ℕ) → same31 f g ≡ true → bit31 f ≡ bit31 g
 same-bit f g e = ap (λ (n : ℕ). eqb n 1) (eqb-true (f / 2147483648 % 2) (g / 2147483648 % 2) e)
 
 -- ## Files that agree

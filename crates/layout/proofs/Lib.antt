@@ -18,3 +18,5 @@ pub mod Unique
 pub mod Theorem
 pub mod Reach
 pub mod States
+pub mod Last
+pub mod BlockKinds

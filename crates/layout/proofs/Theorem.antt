@@ -90,7 +90,7 @@ begins tag s n b =
     ap (take 48) (append-assoc (spellWords (headerRow tag s .words)) (spellRows (fileSection s ++ xorbSection s)) (joined (spellFoot (xorbOffset s) (footerOffset s)) (listed (s .footer))))
     ∙ take-at (spellWords (headerRow tag s .words)) _ 48 (length-words (headerRow tag s .words)) ∙ header-bytes tag s n b
 
-length-rows : (rs : List Row) → length (spellRows rs) ≡ 48 * length rs
+pub length-rows : (rs : List Row) → length (spellRows rs) ≡ 48 * length rs
 length-rows [] = refl
 length-rows (r ∷ rs) = length-append (spellWords (r .words)) (spellRows rs) ∙ (let e : length (spellRows rs) ≡ 48 * length rs = length-rows rs in omega (arith, length-words (r .words)))
 

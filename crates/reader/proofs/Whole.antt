@@ -19,6 +19,7 @@ use Rattle.rules.specs.Rules.{sizeOf, wordsIn, faultIn, recordOf, nextOf, start
 use Rattle.rules.specs.Verdicts.{refused, verdictAt}
 use Rattle.rules.specs.declared.Place.{Place}
 use Rattle.rules.specs.declared.Record.{Record}
+use Rattle.rules.specs.declared.Verdict.{Verdict}
 use Rattle.carry.specs.Carry.{carryIn}
 use Rattle.carry.proofs.Carry.{words-own, fault-own}
 use Rattle.layout.specs.Scan.{settled, judged, format, scan, verdictOf, foundIn}
@@ -161,3 +162,7 @@ verdict-of (stopped p) = refl
 pub last-verdict : (tag s : List ℕ) → verdictAt (lastPlace tag s) ≡ foundIn tag s .verdict
 unfolding lastPlace foundIn
 last-verdict tag s = verdict-of (scan tag s .state)
+
+-- so what is said at a last place is what is found
+pub verdict-said : (tag s : List ℕ) (p : Place) (v : Verdict) → p ≡ lastPlace tag s → v ≡ verdictAt p → v ≡ foundIn tag s .verdict
+verdict-said tag s p v last said = said ∙ ap verdictAt last ∙ last-verdict tag s

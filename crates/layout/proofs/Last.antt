@@ -1,0 +1,55 @@
+-- Reading the bytes of a shard comes to its xorb offset, because the rows lead there and a footer leaves it as it is; and only a tag of 32 bytes
+-- accepts any. Assumes nothing.
+use mathlib.Core.Path.{_≡_, refl, sym, ap, _∙_, subst}
+use mathlib.Core.Bool.{Bool, true, false}
+use mathlib.Core.Option.{Option, none, some}
+use mathlib.Core.List.{List, [], append-nil}
+use Prim.Native.Nat.{ℕ, _≤_}
+use native.Mathlib.Omega.{arith}
+use lib.ListN.{length}
+use lib.Dec.{eqb}
+use borrow.Author.Tests.{eqb-true, eqb-false}
+use Rattle.words.specs.Checks.{pick}
+use Rattle.words.specs.Le.{Bytes}
+use Rattle.words.specs.Record.{hashAt}
+use Rattle.cut.specs.Format.{Run, run, at}
+use Rattle.cut.proofs.Runs.{run-nil}
+use Rattle.rules.specs.Rules.{limit, start, nextOf, nextBy}
+use Rattle.rules.specs.declared.Due.{Due}
+use Rattle.rules.specs.declared.Due.the-variants.{Footer, End}
+use Rattle.rules.specs.declared.Place.{Place}
+use Rattle.rules.specs.declared.Record.{Record}
+use Rattle.layout.specs.Layout.{Foot, Shard, Each, has, listed, joined, spellFoot, footWords, rowsOf, xorbOffset, footerOffset, lengthOf, bytesOf, SoundFoot}
+use Rattle.layout.specs.Claim.{Spells}
+use Rattle.layout.specs.Reach.{placeOf, lastPlace}
+use Rattle.layout.specs.Scan.{Found, format, foundIn, IsAccepted}
+use Rattle.layout.proofs.Refusals.{scan-starts, bad-tag}
+use Rattle.layout.proofs.Foot.{whole-foot, foot-run}
+use Rattle.layout.proofs.Rows.{run-rows}
+use Rattle.layout.proofs.ShardForth.{ShardGo, shard-go}
+
+pub tag-size : (tag bytes : List ℕ) → IsAccepted (foundIn tag bytes .verdict) → length tag ≡ 32
+tag-size tag bytes a = go (eqb (length tag) 32) refl
+  where
+    go : (t : Bool) → eqb (length tag) 32 ≡ t → length tag ≡ 32
+    go true e = eqb-true _ _ e
+    go false e = absurd (subst (λ (f : Found). IsAccepted (f .verdict)) (bad-tag tag (eqb-false _ _ e) bytes) a)
+
+-- a footer leaves the offset as it is
+foot-keeps : (tag : List ℕ) (q : Place) (x h : ℕ) (o : Option Foot) → q .at .0 ≡ h → q .offset .0 ≡ x → q .due ≡ pick (has o) Footer End → h ≤ limit → x ≤ limit → Each SoundFoot (listed o)
+    → placeOf (run (format tag) (at q []) (joined (spellFoot x h) (listed o)) .state) .offset .0 ≡ x
+unfolding nextOf
+foot-keeps tag q x h none eh ex d lh lx ok = ap (λ (r : Run Place Record Place). placeOf (r .state) .offset .0) (run-nil (format tag) (at q [])) ∙ ex
+foot-keeps tag q x h (some g) eh ex d lh lx ok =
+    ap (λ (l : List ℕ). placeOf (run (format tag) (at q []) l .state) .offset .0) (append-nil (spellFoot x h g))
+    ∙ rw (← ex, ← eh) (ap (λ (r : Run Place Record Place). placeOf (r .state) .offset .0) (foot-run tag q (footWords g) d (omega arith) (omega arith) (whole-foot g (ok .0)))
+    ∙ ap (λ (e : Due). nextBy e q (footWords g) .offset .0) d)
+
+pub offset-is : (tag bytes : List ℕ) (s : Shard) → length tag ≡ 32 → Bytes tag → Spells tag s bytes → lastPlace tag bytes .offset .0 ≡ xorbOffset s
+unfolding lastPlace bytesOf lengthOf footerOffset
+offset-is tag bytes s n t x =
+    let o : ShardGo tag s = shard-go tag s t (x .sound) in
+    let rest : List ℕ = joined (spellFoot (xorbOffset s) (footerOffset s)) (listed (s .footer)) in
+    ap (λ (r : Run Place Record Place). placeOf (r .state) .offset .0)
+    (scan-starts tag n bytes ∙ ap (run (format (hashAt tag 0)) (at start [])) (sym (x .spelled)) ∙ run-rows (hashAt tag 0) start (o .last) (rowsOf tag s) rest (o .goes))
+    ∙ foot-keeps (hashAt tag 0) (o .last) (xorbOffset s) (footerOffset s) (s .footer) (o .at) (o .offset) (o .due) (omega (arith, x .sound .short)) (omega (arith, x .sound .short)) (x .sound .footer)
