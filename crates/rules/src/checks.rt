@@ -15,7 +15,7 @@ ghost use mathlib.Core.Bool.{_&&_, _||_};
 ghost use lib.Dec.{eqb, leb, ltb};
 ghost use Rattle.words.specs.Record.{isOnes};
 ghost use Rattle.words.specs.Checks.{pick, fine, _unless_then_};
-ghost use Rattle.rules.specs.Rules.{bit31, bit30, fits, furtherRecords, headerFault, bookendFault, fileHeadFault, segmentFault, plainFault, xorbHeadFault, chunkFault, footerFault, faultOf};
+ghost use Rattle.rules.specs.Rules.{bit31, same31, bit30, fits, furtherRecords, headerFault, bookendFault, fileHeadFault, segmentFault, plainFault, xorbHeadFault, chunkFault, footerFault, faultOf};
 
 // The number of the first check that fails.
 fn first1(m: u32, a: bool) -> u32
@@ -63,6 +63,13 @@ pub fn bit_31(flags: u32) -> bool
     ensures { λ r. ⌜ r ≡ bit31 flags ⌝ }
 {
     flags / 2147483648 % 2 == 1
+}
+
+// Two flags agree about bit 31.
+pub fn same_31(f: u32, g: u32) -> bool
+    ensures { λ r. ⌜ r ≡ same31 f g ⌝ }
+{
+    f / 2147483648 % 2 == g / 2147483648 % 2
 }
 
 pub fn bit_30(flags: u32) -> bool
@@ -165,12 +172,11 @@ impl Place {
     {
         let at = self.at;
         let totals = self.totals;
-        let same = w.a / 2147483648 % 2 == self.flags / 2147483648 % 2;
         first3(
             Refusal::RESERVED,
             (w.a % 1073741824 == 0) & (w.c == 0) & (w.d == 0),
             Refusal::BIT_31,
-            (totals.files == 0) | same,
+            (totals.files == 0) | same_31(w.a, self.flags),
             Refusal::LIMIT,
             fits_in(
                 at.0,

@@ -7,6 +7,7 @@ mod order;
 mod verdicts;
 
 pub use checks::further_records;
+pub use checks::same_31;
 ghost use mathlib.Core.Path.{_≡_};
 ghost use Prim.Native.Nat.{_<_};
 ghost use Rattle.rules.specs.Rules.{movedTo};
@@ -136,6 +137,8 @@ impl Refusal {
     pub const BUFFER: u32 = 15;
 
     pub const NOT_DUE: u32 = 16;
+
+    pub const FOOTER: u32 = 30;
 }
 
 // What is said of an accepted shard.
