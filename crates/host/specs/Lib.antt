@@ -1,3 +1,4 @@
 pub mod Boundary
 pub mod Claims
 pub mod Founds
+pub mod Joins

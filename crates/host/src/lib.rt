@@ -2,6 +2,7 @@
 // are in host_read, host_step, host_write and host_whole. What each number means is said in specs/Boundary, and for C in
 // include/melagbosun.h.
 pub mod founds;
+pub mod joins;
 mod places;
 pub mod readers;
 pub mod records;
@@ -144,4 +145,12 @@ pub struct FoundFileState {
     pub said: u32,
     pub number: u32,
     pub file: u32,
+}
+
+// What joining gives: so many bytes were written, or 0 and the refusal.
+#[repr(C)]
+pub struct JoinedState {
+    pub wrote: u64,
+    pub at: u64,
+    pub number: u32,
 }

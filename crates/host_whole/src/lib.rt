@@ -1,15 +1,20 @@
-// For a host that has a whole shard in a buffer: judging it, and finding a chunk or a file in it.
+// For a host that has whole shards in buffers: judging one, finding a chunk or a file in it, and joining two.
 use host::FoundChunkState;
 use host::FoundFileState;
 use host::HashState;
+use host::JoinedState;
 use host::VerdictState;
 use host::founds;
+use host::joins;
 use host::records;
 ghost use mathlib.Core.Path.{_≡_};
+ghost use lib.ListN.{length};
 ghost use Rattle.layout.specs.Scan.{foundIn};
 ghost use Rattle.finder.specs.Find.{chunkFound, fileFound};
+ghost use Rattle.join.specs.Join.{joinOf, bufferOf};
 ghost use Rattle.host.specs.Boundary.{verdictOut};
 ghost use Rattle.host.specs.Founds.{chunkOut, fileOut};
+ghost use Rattle.host.specs.Joins.{joinedOut};
 
 // The verdict on a whole shard in a lent buffer.
 #[no_mangle]
@@ -35,4 +40,12 @@ pub extern "C" fn mdb_find_file(tag: &[u8], shard: &[u8], hash: HashState) -> Fo
 {
     let numbers = hash.numbers;
     founds::file_out(finder::find_file(tag, shard, numbers))
+}
+
+// One shard of two, at the start of a lent buffer.
+#[no_mangle]
+pub extern "C" fn mdb_join(tag: &[u8], first: &[u8], second: &[u8], out: &mut [u8]) -> JoinedState
+    ensures { λ r. ⌜ (r ≡ joinedOut (joinOf (now (tag .entry)) (now (first .entry)) (now (second .entry)) (length (now (out .entry))))) × (now (out .exit) ≡ bufferOf (now (tag .entry)) (now (first .entry)) (now (second .entry)) (now (out .entry))) ⌝ }
+{
+    joins::joined_out(join::join(tag, first, second, out))
 }

@@ -1,0 +1,11 @@
+pub mod Copies
+pub mod Spelled
+pub mod Answers
+pub mod Sections
+pub mod Agreement
+pub mod Exactly
+pub mod Results
+pub mod Records
+pub mod Theorem
+pub mod Trees
+pub mod Grouping

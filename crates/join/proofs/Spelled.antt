@@ -1,0 +1,122 @@
+-- What is known of the bytes of a sound shard: where its sections stand, and that reading comes to its xorb offset, because its rows are good ones.
+-- Assumes nothing.
+use mathlib.Core.Path.{_≡_, refl, sym, ap, _∙_}
+use mathlib.Core.Option.{Option, none}
+use mathlib.Core.List.{List, [], _∷_, _++_, append-assoc, append-nil}
+use Prim.Native.Nat.{ℕ, zero, suc, _/_}
+use native.Mathlib.Omega.{arith}
+use lib.ListN.{length, getD}
+use Rattle.words.specs.Le.{Bytes, spell}
+use Rattle.words.specs.Record.{hashAt, spellHash, spellWords}
+use Rattle.words.specs.declared.Words.{Words}
+use Rattle.words.proofs.Numbers.{bytes-none}
+use Rattle.rules.specs.declared.Kind.the-variants as kind
+use Rattle.layout.specs.Layout.{Foot, Shard, Row, row, listed, joined, spellFoot, headerRow, fileRows, xorbRows, bookend, rowsOf, fileSection, xorbSection, spellRows, xorbOffset, footerOffset, lengthOf, bytesOf}
+use Rattle.layout.specs.Claim.{meaningOf, Spells}
+use Rattle.layout.specs.Scan.{foundIn, IsAccepted}
+use Rattle.layout.proofs.ShardForth.{length-files, length-of}
+use Rattle.layout.proofs.Last.{offset-is}
+use Rattle.layout.proofs.Theorem.{layout}
+use Rattle.reader.proofs.Reached.{bytes-append}
+use Rattle.join.specs.Join.{Parted, offsetIn}
+
+-- ## The shard of accepted bytes
+
+-- what is known of a shard from its bytes
+pub record Spelling (tag bytes : List ℕ) (s : Shard) : Type 0 where
+  pub spells : Spells tag s bytes
+  pub found : foundIn tag bytes ≡ meaningOf tag s
+  pub size : length bytes ≡ lengthOf s
+  pub offset : offsetIn tag bytes ≡ xorbOffset s
+
+module _ (tag : List ℕ) (n : length tag ≡ 32) (t : Bytes tag) where
+  pub spelling : (bytes : List ℕ) (s : Shard) → Spells tag s bytes → Spelling tag bytes s
+  spelling bytes s x = record {
+    spells = x;
+    found = layout tag n t .found bytes s x;
+    size = ap length (sym (x .spelled)) ∙ layout tag n t .long s;
+    offset = offset-is tag bytes s n t x;
+  }
+
+  pub tree-of : (bytes : List ℕ) → Bytes bytes → IsAccepted (foundIn tag bytes .verdict) → (s : Shard) × Spelling tag bytes s
+  tree-of bytes b a = let (s, x) = layout tag n t .accepted bytes b .0 a in (s, spelling bytes s x)
+
+-- its offset lies between its two bookends
+pub parted : (tag bytes : List ℕ) (s : Shard) → Spelling tag bytes s → Parted bytes (offsetIn tag bytes)
+unfolding xorbOffset
+parted tag bytes s o = record {
+  behind = omega (arith, o .offset, length-files s);
+  before = omega (arith, o .offset, o .size, length-of s, length-files s);
+  short = omega (arith, o .size, o .spells .sound .short);
+}
+
+-- ## Its sections
+
+pub spell-append : (xs ys : List Row) → spellRows (xs ++ ys) ≡ spellRows xs ++ spellRows ys
+spell-append [] ys = refl
+spell-append (x ∷ xs) ys = ap (λ (l : List ℕ). spellWords (x .words) ++ l) (spell-append xs ys) ∙ sym (append-assoc (spellWords (x .words)) (spellRows xs) (spellRows ys))
+
+pub joined-append : {A : Type 0} {B : Type 0} (f : A → List B) (xs ys : List A) → joined f (xs ++ ys) ≡ joined f xs ++ joined f ys
+joined-append f [] ys = refl
+joined-append f (x ∷ xs) ys = ap (λ l. f x ++ l) (joined-append f xs ys) ∙ sym (append-assoc (f x) (joined f xs) (joined f ys))
+
+-- the 48 bytes of a header without footer, those of the files, of a bookend, and of the xorbs
+abbrev pub headBytes : List ℕ → List ℕ
+headBytes tag = spellWords (row kind.Header (hashAt tag 0) 2 0 0 0 .words)
+
+abbrev pub fileBytes : Shard → List ℕ
+fileBytes s = spellRows (joined fileRows (s .files))
+
+abbrev pub endBytes : List ℕ
+endBytes = spellWords (bookend .words)
+
+abbrev pub xorbBytes : Shard → List ℕ
+xorbBytes s = spellRows (joined xorbRows (s .xorbs))
+
+-- one after the other
+abbrev pub inOrder : List ℕ → List ℕ → List ℕ → List ℕ → List ℕ
+inOrder head end files xorbs = head ++ (files ++ (end ++ (xorbs ++ end)))
+
+head-bytes : (tag : List ℕ) (s : Shard) → s .footer ≡ none → spellWords (headerRow tag s .words) ≡ headBytes tag
+head-bytes tag s e = rw e
+
+end-bytes : (x h : ℕ) (o : Option Foot) → o ≡ none → joined (spellFoot x h) (listed o) ≡ []
+end-bytes x h o e = rw e
+
+sections : (fs xs : List Row) → spellRows (fs ++ (bookend ∷ []) ++ (xs ++ (bookend ∷ []))) ≡ spellRows fs ++ (endBytes ++ (spellRows xs ++ endBytes))
+sections fs xs =
+    spell-append (fs ++ (bookend ∷ [])) (xs ++ (bookend ∷ []))
+    ∙ rw (spell-append fs (bookend ∷ []), spell-append xs (bookend ∷ [])) (simp (append-assoc, append-nil))
+
+pub bytes-are : (tag : List ℕ) (s : Shard) → s .footer ≡ none → bytesOf tag s ≡ inOrder (headBytes tag) endBytes (fileBytes s) (xorbBytes s)
+unfolding bytesOf rowsOf fileSection xorbSection
+bytes-are tag s e = rw (end-bytes (xorbOffset s) (footerOffset s) (s .footer) e, append-nil, head-bytes tag s e, sections (joined fileRows (s .files)) (joined xorbRows (s .xorbs)))
+
+-- ## They are bytes
+
+spell-bytes : (w x : ℕ) → Bytes (spell w x)
+unfolding spell
+spell-bytes zero x i = bytes-none i
+spell-bytes (suc w) x zero = omega arith
+spell-bytes (suc w) x (suc i) = spell-bytes w (x / 256) i
+
+-- four numbers behind some bytes
+four-bytes : (bytes : List ℕ) (w a b c d : ℕ) → Bytes bytes → Bytes (bytes ++ spell w a ++ spell w b ++ spell w c ++ spell w d)
+four-bytes bytes w a b c d h =
+    bytes-append (bytes ++ spell w a ++ spell w b ++ spell w c) (spell w d)
+    (bytes-append (bytes ++ spell w a ++ spell w b) (spell w c)
+    (bytes-append (bytes ++ spell w a) (spell w b) (bytes-append bytes (spell w a) h (spell-bytes w a)) (spell-bytes w b)) (spell-bytes w c)) (spell-bytes w d)
+
+words-bytes : (w : Words) → Bytes (spellWords w)
+unfolding spellWords spellHash
+words-bytes w =
+    let h : List ℕ = w .hash in
+    four-bytes (spellHash h) 4 (w .a) (w .b) (w .c) (w .d) (four-bytes [] 8 (getD h 0 0) (getD h 1 0) (getD h 2 0) (getD h 3 0) bytes-none)
+
+rows-bytes : (rs : List Row) → Bytes (spellRows rs)
+rows-bytes [] = bytes-none
+rows-bytes (r ∷ rs) = bytes-append (spellWords (r .words)) (spellRows rs) (words-bytes (r .words)) (rows-bytes rs)
+
+pub bytes-spelled : (tag : List ℕ) (s : Shard) → s .footer ≡ none → Bytes (bytesOf tag s)
+unfolding bytesOf
+bytes-spelled tag s e = rw (end-bytes (xorbOffset s) (footerOffset s) (s .footer) e, append-nil) (rows-bytes (rowsOf tag s))
