@@ -1,7 +1,9 @@
 // Reads the cases on standard input, one after the other, and tells all that the library makes of each. A case is one byte T, T bytes of tag, four
 // bytes N (little-endian), N bytes of shard, one byte K and K bytes, the lengths of the pieces that it is read in, over and over.
-// Where K is 0 it is read in one piece. A length 0 is an empty piece and then one of a byte.
+// Where K is 0 it is read in one piece. A length 0 is an empty piece and then one of a byte. Then come in the same way a tag, a shard,
+// another one and a buffer, with which these two are joined.
 use aloud::Heard;
+use joined::next_joined;
 use shardline::text::say;
 use trial::cases::SHARD_MOST;
 use trial::cases::TAG_MOST;
@@ -13,6 +15,7 @@ use whole::found_told;
 use whole::written_told;
 
 mod aloud;
+mod joined;
 mod whole;
 
 // One case: the records in pieces and the verdict on them, then what is made of the whole shard.
@@ -56,7 +59,7 @@ fn main() {
     let mut turns = u64::MAX;
     let mut more = true;
     while turns > 0 && more {
-        more = next_told();
+        more = next_told() && next_joined();
         turns -= 1;
     }
 }

@@ -16,8 +16,8 @@ use Rattle.rules.specs.declared.Summary.{Summary}
 use Rattle.layout.specs.Layout.{Foot, Shard, has, lengthOf, totalsOf, Sound, SoundFile, SoundXorb}
 use Rattle.layout.specs.Claim.{Spells}
 use Rattle.layout.proofs.Checks.{passed}
-use Rattle.join.specs.Join.{firstFlags, joinedLength, joinFault, faultFor, answerBy, answerFor, joinOf, joinedBytes, joinTree}
-use Rattle.join.specs.Claims.{Joins, firstsAgree, treeFault, JoinsIn}
+use Rattle.join.specs.Join.{firstFlags, joinedLength, joinFault, faultFor, answerBy, answerFor, joinOf, joinedBytes}
+use Rattle.join.specs.Claims.{joinTree, Joins, firstsAgree, treeFault, JoinsIn}
 use Rattle.join.specs.declared.Joined.the-variants.{Wrote, Refused}
 use Rattle.join.proofs.Spelled.{Spelling}
 use Rattle.join.proofs.Sections.{bytes-joined, length-both}

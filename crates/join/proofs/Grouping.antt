@@ -9,8 +9,8 @@ use lib.ListN.{length, length-append}
 use Rattle.words.specs.Le.{Bytes}
 use Rattle.layout.specs.Layout.{Shard, Each, Sound, lengthOf, bytesOf}
 use Rattle.layout.specs.Claim.{Spells}
-use Rattle.join.specs.Join.{joinedBytes, joinTree, resultOf}
-use Rattle.join.specs.Claims.{Joins, Joinable}
+use Rattle.join.specs.Join.{joinedBytes}
+use Rattle.join.specs.Claims.{joinTree, resultOf, Joins, Joinable}
 use Rattle.join.specs.Groups.{Group, shard, both, shardsOf, withBoth, comesTo, lengthIn, Roomy, treeOf, EachSpelled, GroupClaim}
 use Rattle.join.proofs.Spelled.{Spelling, spelling, bytes-spelled}
 use Rattle.join.proofs.Agreement.{each-first, each-second}

@@ -16,8 +16,8 @@ use Rattle.rules.specs.declared.Verdict.the-variants as verdict
 use Rattle.layout.specs.Layout.{Foot, Shard, has, lengthOf}
 use Rattle.layout.specs.Scan.{Found, foundIn, IsAccepted}
 use Rattle.layout.proofs.Checks.{passed}
-use Rattle.join.specs.Join.{joinedBytes, joinedLength, joinTree, firstFlags, joinFault, faultFor, ifAccepted, answerFor, joinOf, bufferOf, resultBy, resultOf}
-use Rattle.join.specs.Claims.{Joins, JoinsIn, Joinable}
+use Rattle.join.specs.Join.{joinedBytes, joinedLength, firstFlags, joinFault, faultFor, ifAccepted, answerFor, joinOf, bufferOf}
+use Rattle.join.specs.Claims.{joinTree, resultBy, resultOf, Joins, JoinsIn, Joinable}
 use Rattle.join.specs.declared.Joined.{Joined}
 use Rattle.join.specs.declared.Joined.the-variants.{Wrote, Refused}
 use Rattle.join.proofs.Spelled.{Spelling, spelling, tree-of}

@@ -11,7 +11,8 @@ use Rattle.words.proofs.Records.{length-words}
 use Rattle.layout.specs.Layout.{Shard, joined, fileRows, xorbRows, spellRows, xorbOffset, lengthOf, footerSize, bytesOf}
 use Rattle.layout.proofs.ShardForth.{length-files, length-of}
 use Rattle.layout.proofs.Theorem.{length-rows}
-use Rattle.join.specs.Join.{part, joinedAt, joinedBytes, joinTree}
+use Rattle.join.specs.Join.{part, joinedAt, joinedBytes}
+use Rattle.join.specs.Claims.{joinTree}
 use Rattle.join.proofs.Spelled.{Spelling, headBytes, fileBytes, endBytes, xorbBytes, inOrder, bytes-are, joined-append, spell-append}
 
 -- ## Cut out of the bytes

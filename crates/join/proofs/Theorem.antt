@@ -9,8 +9,8 @@ use lib.Seq.{drop-at}
 use Rattle.words.specs.Le.{Bytes}
 use Rattle.rules.specs.declared.Refusal.{Refusal}
 use Rattle.layout.specs.Layout.{Row, fileRows, xorbRows}
-use Rattle.join.specs.Join.{joinedBytes, joinTree, joinOf, bufferBy, bufferOf, resultOf}
-use Rattle.join.specs.Claims.{ofFile, ofXorb, recordsIn, Joinable, JoinClaim, BufferClaim}
+use Rattle.join.specs.Join.{joinedBytes, joinOf, bufferBy, bufferOf}
+use Rattle.join.specs.Claims.{joinTree, resultOf, ofFile, ofXorb, recordsIn, Joinable, JoinClaim, BufferClaim}
 use Rattle.join.specs.declared.Joined.{Joined}
 use Rattle.join.specs.declared.Joined.the-variants.{Wrote, Refused}
 use Rattle.join.proofs.Spelled.{spelling, joined-append}

@@ -8,7 +8,7 @@ use native.Mathlib.Omega.{arith}
 use lib.ListN.{length}
 use Rattle.layout.specs.Layout.{FileBlock, XorbBlock, Foot, Shard, Sound, SoundFile, SoundXorb, joined, fileRows, xorbRows, lengthOf}
 use Rattle.layout.proofs.ShardForth.{length-of}
-use Rattle.join.specs.Join.{joinTree}
+use Rattle.join.specs.Claims.{joinTree}
 use Rattle.join.specs.Groups.{treeOf}
 use Rattle.join.proofs.Spelled.{joined-append}
 use Rattle.join.proofs.Agreement.{each-first, each-second, agree-first, agree-second}

@@ -3,11 +3,11 @@
 -- Claims about several calls are in specs/Groups.
 use mathlib.Core.Path.{_≡_}
 use mathlib.Core.Logic.{_↔_}
-use mathlib.Core.Option.{none, some}
+use mathlib.Core.Option.{Option, none, some}
 use mathlib.Core.Bool.{Bool, true, false, _||_}
 use mathlib.Core.List.{List, [], _∷_, _++_, map}
 use Prim.Native.Nat.{ℕ, _+_, _-_, _≤_}
-use lib.ListN.{length, drop}
+use lib.ListN.{length, take, drop}
 use Rattle.words.specs.Checks.{pick}
 use Rattle.words.specs.Le.{Bytes}
 use Rattle.rules.specs.Rules.{same31}
@@ -20,10 +20,15 @@ use Rattle.rules.specs.declared.Verdict.the-variants as verdict
 use Rattle.layout.specs.Layout.{FileBlock, Shard, Row, Sound, has, flagsOf, lengthOf}
 use Rattle.layout.specs.Claim.{Spells}
 use Rattle.layout.specs.Scan.{foundIn}
-use Rattle.join.specs.Join.{joinFault, answerBy, joinedBytes, joinOf, bufferOf, resultOf, joinTree}
+use Rattle.join.specs.Join.{joinFault, answerBy, joinedBytes, joinOf, bufferOf}
+use Rattle.join.specs.declared.Joined.{Joined}
 use Rattle.join.specs.declared.Joined.the-variants.{Wrote, Refused}
 
 -- ## Words for the claims
+
+-- the first one's files, then the second's, and the same for xorbs, duplicates kept
+abbrev pub joinTree : Shard → Shard → Shard
+joinTree s t = record { files = s .files ++ t .files; xorbs = s .xorbs ++ t .xorbs; footer = none }
 
 -- two trees can be joined: neither has a footer, and the tree of both is sound, so that its files agree about bit 31 and it does not pass the limit
 pub record Joins (s t : Shard) : Type 0 where
@@ -88,6 +93,14 @@ ofKinds these (r ∷ rs) = pick (these (r .kind)) (r ∷ ofKinds these rs) (ofKi
 -- the records of some kinds that are found in a shard, positions aside
 abbrev pub recordsIn : (Kind → Bool) → List ℕ → List ℕ → List Row
 recordsIn these tag bytes = ofKinds these (map unplaced (foundIn tag bytes .records))
+
+-- the shard that a call leaves in the buffer; none if it is refused
+abbrev pub resultBy : Joined → List ℕ → Option (List ℕ)
+resultBy (Wrote size) buffer = some (take size buffer)
+resultBy (Refused refusal) buffer = none
+
+unfoldable pub resultOf : List ℕ → List ℕ → List ℕ → List ℕ → Option (List ℕ)
+resultOf tag first second buffer = resultBy (joinOf tag first second (length buffer)) (bufferOf tag first second buffer)
 
 -- ## One call
 

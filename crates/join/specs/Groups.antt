@@ -8,8 +8,7 @@ use lib.ListN.{length}
 use Rattle.words.specs.Le.{Bytes}
 use Rattle.layout.specs.Layout.{Shard, Each, Sound, joined, bytesOf}
 use Rattle.layout.specs.Claim.{Spells}
-use Rattle.join.specs.Join.{resultOf}
-use Rattle.join.specs.Claims.{Joinable}
+use Rattle.join.specs.Claims.{resultOf, Joinable}
 
 -- ## Groups of shards
 

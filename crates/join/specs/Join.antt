@@ -2,7 +2,6 @@
 use Prim.Native.Nat.{ℕ, _+_, _-_, _≤_}
 use mathlib.Core.List.{List, _++_}
 use mathlib.Core.Bool.{Bool, _||_, not}
-use mathlib.Core.Option.{Option, none, some}
 use lib.Dec.{eqb, leb}
 use lib.ListN.{length, take, drop}
 use Rattle.words.specs.Checks.{pick, fine, _unless_then_}
@@ -14,7 +13,6 @@ use Rattle.rules.specs.declared.Verdict.{Verdict}
 use Rattle.rules.specs.declared.Verdict.the-variants as verdict
 use Rattle.layout.specs.Scan.{foundIn}
 use Rattle.layout.specs.Reach.{lastPlace}
-use Rattle.layout.specs.Layout.{Shard}
 use Rattle.join.specs.declared.Joined.{Joined}
 use Rattle.join.specs.declared.Joined.the-variants.{Wrote, Refused}
 
@@ -45,7 +43,7 @@ joinedLength first second = length first + length second - 144
 
 -- ## The answer
 
--- the first file head stands at 48, its flags 32 bytes behind
+-- of a shard that has files: the first head stands at 48, its flags 32 bytes behind
 abbrev pub firstFlags : List ℕ → ℕ
 firstFlags bytes = leAt 4 bytes 80
 
@@ -54,7 +52,7 @@ unfoldable pub joinFault : Bool → Bool → ℕ → ℕ → ℕ
 joinFault footer agree size room =
     -- neither has a footer
     30 unless not footer then
-    -- where both have files, they agree about bit 31
+    -- where both have files, they agree about bit 31; those of one shard do, so the first ones tell
     9 unless agree then
     -- the result does not pass the limit
     6 unless leb size limit then
@@ -85,21 +83,13 @@ joinOf tag first second room = ifAccepted (foundIn tag first .verdict) (λ s. if
 
 -- ## The buffer
 
--- the result stands at its start, and no other byte changes; a refusal changes none
+-- the result, which has this size, stands at its start, and no other byte changes; a refusal changes none
 abbrev pub bufferBy : Joined → List ℕ → List ℕ → List ℕ
 bufferBy (Wrote size) bytes buffer = bytes ++ drop size buffer
 bufferBy (Refused refusal) bytes buffer = buffer
 
 unfoldable pub bufferOf : List ℕ → List ℕ → List ℕ → List ℕ → List ℕ
 bufferOf tag first second buffer = bufferBy (joinOf tag first second (length buffer)) (joinedBytes tag first second) buffer
-
--- the shard that a call leaves in the buffer; none if it is refused
-abbrev pub resultBy : Joined → List ℕ → Option (List ℕ)
-resultBy (Wrote size) buffer = some (take size buffer)
-resultBy (Refused refusal) buffer = none
-
-unfoldable pub resultOf : List ℕ → List ℕ → List ℕ → List ℕ → Option (List ℕ)
-resultOf tag first second buffer = resultBy (joinOf tag first second (length buffer)) (bufferOf tag first second buffer)
 
 -- ## What copying asks
 
@@ -108,9 +98,3 @@ pub record Parted (bytes : List ℕ) (x : ℕ) : Type 0 where
   pub behind : 96 ≤ x
   pub before : x + 48 ≤ length bytes
   pub short : length bytes ≤ limit
-
--- ## The same of trees
-
--- the first one's files, then the second's, and the same for xorbs, duplicates kept
-abbrev pub joinTree : Shard → Shard → Shard
-joinTree s t = record { files = s .files ++ t .files; xorbs = s .xorbs ++ t .xorbs; footer = none }

@@ -9,6 +9,7 @@ use Rattle.rules.specs.Held.{held}
 use Rattle.rules.specs.Verdicts.{verdictAt}
 use Rattle.layout.specs.Quay.{tag, hash}
 use Rattle.layout.specs.Scan.{foundIn, scan}
+use Rattle.layout.specs.Reach.{lastPlace}
 use Rattle.reader.specs.Stream as stream
 use Rattle.reader.specs.Stream.{stepOf}
 use Rattle.beside.specs.Beside.{lend, bareOf, callFor}
@@ -17,15 +18,18 @@ use Rattle.writer.specs.Offers.{wordsOf}
 use Rattle.writer.specs.Write as write
 use Rattle.writer.specs.Write.{bytesOf, answerOf, writtenOf, bufferOf}
 use Rattle.finder.specs.Find.{chunkIn, chunkFound, fileIn, fileFound}
+use Rattle.join.specs.Join as join
+use Rattle.join.specs.Join.{joinedAt, joinedBytes, joinFault, answerFor, joinOf}
 use Rattle.host.specs.Boundary.{readerIn, readerOut, stepOut, readOut, verdictOut, writerIn, writerOut, writtenOut, writtenFor, bufferFor}
 use Rattle.host.specs.Founds.{chunkOut, fileOut}
+use Rattle.host.specs.Joins.{joinedOut}
 use Rattle.host.specs.declared.ReaderState.{ReaderState}
 use Rattle.host.specs.declared.ReadState.{ReadState}
 use Rattle.host.specs.declared.StepState.{StepState}
 use Rattle.host.specs.declared.WriterState.{WriterState}
 use Rattle.wrong_answers.specs.Wrong.{Wrong, _not_by_, Refuted, refuted}
 use Rattle.wrong_answers.specs.Told.{number, numbers}
-use Rattle.wrong_answers.specs.Inputs.{words, other, atEnd, atSegment, atFooter, tagShort, bare, writer, placeWith, offered, zeros, goodSegment, empty, chunks, files}
+use Rattle.wrong_answers.specs.Inputs.{words, other, atEnd, atSegment, atFooter, tagShort, bare, writer, placeWith, offered, zeros, goodSegment, empty, late, chunks, files, oneOfEach}
 
 -- a reader that waits for a segment, as it was given out
 abbrev waiting : ReaderState
@@ -97,8 +101,15 @@ wrongs =
     ∷ (fileOut (fileFound tag files other) .file not 0 by number)
     -- tag and shard exchanged
     ∷ (fileOut (fileFound tag files other) .said not fileOut (fileFound files tag other) .said by number)
+    -- ## `mdb_join`
+    -- first and second exchanged
+    ∷ (join.bufferOf tag (oneOfEach hash) (oneOfEach other) (zeros 336) not join.bufferOf tag (oneOfEach other) (oneOfEach hash) (zeros 336) by numbers)
+    -- a refused join said to have written
+    ∷ (joinedOut (joinOf tag empty late 145) .wrote not 145 by number)
+    -- the buffer left as it was
+    ∷ (join.bufferOf tag empty empty (zeros 144) not zeros 144 by numbers)
     ∷ []
 
 pub calls-refuted : Refuted wrongs
-unfolding stream.fresh stepOf stream.verdictOf callFor readWith readFor reads puts write.fresh wordsOf bytesOf answerOf writtenOf bufferOf write.verdictOf chunkFound chunkIn fileFound fileIn foundIn scan run push fill verdictAt faultOf kindOf recordOf nextOf held leAt zerosAt spell spellHash spellWords spellFooter
+unfolding stream.fresh stepOf stream.verdictOf callFor readWith readFor reads puts write.fresh wordsOf bytesOf answerOf writtenOf bufferOf write.verdictOf chunkFound chunkIn fileFound fileIn joinedAt joinedBytes joinFault answerFor joinOf join.bufferOf lastPlace foundIn scan run push fill verdictAt faultOf kindOf recordOf nextOf held leAt zerosAt spell spellHash spellWords spellFooter
 calls-refuted = refuted wrongs refl

@@ -21,8 +21,10 @@ use Rattle.finder.specs.declared.FoundChunk.{FoundChunk}
 use Rattle.finder.specs.declared.FoundChunk.the-variants as chunk
 use Rattle.finder.specs.declared.FoundFile.{FoundFile}
 use Rattle.finder.specs.declared.FoundFile.the-variants as file
+use Rattle.join.specs.declared.Joined.the-variants as joined
 use Rattle.host.specs.Boundary.{recordOut, offerIn, verdictOut, readerIn, readerOut, stepOut, readOut, writerIn, writerOut, writtenOut, writtenFor, bufferFor}
 use Rattle.host.specs.Founds.{chunkOut, fileOut}
+use Rattle.host.specs.Joins.{joinedOut}
 use Rattle.wrong_answers.specs.Wrong.{Wrong, _not_by_, Refuted, refuted}
 use Rattle.wrong_answers.specs.Told.{number, numbers, dueTold, answerTold, fieldsTold}
 use Rattle.wrong_answers.specs.Inputs.{words, atEnd, atSegment, atFooter, bare, writer, placeWith, offered, zeros}
@@ -115,6 +117,11 @@ wrongs =
     ∷ (fileOut fileHit .file not 0 by number)
     -- found, and said to be absent
     ∷ (fileOut fileHit .said not 0 by number)
+    -- ## `joined_out`
+    -- the number of a refusal lost
+    ∷ (joinedOut (joined.Refused (refusalAt 9 start)) .number not 0 by number)
+    -- the bytes written for a position
+    ∷ (joinedOut (joined.Wrote 240) .at not 240 by number)
     ∷ []
 
 pub host-refuted : Refuted wrongs

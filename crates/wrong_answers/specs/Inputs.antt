@@ -8,7 +8,7 @@ use Rattle.rules.specs.Rules.{movedTo, withOffset, withFooter, nothing, start}
 use Rattle.rules.specs.declared.Place.{Place}
 use Rattle.rules.specs.declared.Due.{Due}
 use Rattle.rules.specs.declared.Due.the-variants.{Segment, Footer, End}
-use Rattle.layout.specs.Quay.{tag, hash, row, header, bookend}
+use Rattle.layout.specs.Quay.{tag, hash, row, header, bookend, footer}
 use Rattle.reader.specs.Stream.{emptied}
 use Rattle.reader.specs.declared.Reader.{Reader}
 use Rattle.beside.specs.Beside.{bareOf}
@@ -118,3 +118,20 @@ chunks = header 0 ++ bookend ++ row hash 0 2 30 0 ++ row hash 0 10 0 0 ++ row ot
 -- a file of one segment and its verification, and at 192 an empty one
 abbrev pub files : List ℕ
 files = header 0 ++ row hash flag31 1 0 0 ++ goodSegment ++ row hash 0 0 0 0 ++ row other flag31 0 0 0 ++ bookend ++ bookend
+
+-- the shard of an empty file with these flags, and of one with bit 31 and a footer, at 192
+abbrev pub fileWith : ℕ → List ℕ
+fileWith flags = header 0 ++ row hash flags 0 0 0 ++ bookend ++ bookend
+
+abbrev pub footed : List ℕ
+footed = header 200 ++ row hash flag31 0 0 0 ++ bookend ++ bookend ++ footer 48 144 192
+
+-- an empty file with bit 31, an empty xorb of 7 bytes on disk, and the shard of both
+abbrev pub emptyFile : List ℕ → List ℕ
+emptyFile h = row h flag31 0 0 0
+
+abbrev pub emptyXorb : List ℕ → List ℕ
+emptyXorb h = row h 0 0 0 7
+
+abbrev pub oneOfEach : List ℕ → List ℕ
+oneOfEach h = header 0 ++ emptyFile h ++ bookend ++ emptyXorb h ++ bookend

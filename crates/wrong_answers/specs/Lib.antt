@@ -7,6 +7,7 @@ pub mod Reader
 pub mod Beside
 pub mod Writer
 pub mod Finder
+pub mod Join
 pub mod Host
 pub mod Calls
 pub mod Paper

@@ -2,9 +2,9 @@
 use mathlib.Core.Path.{refl}
 use mathlib.Core.Bool.{Bool, true, false}
 use mathlib.Core.List.{List, [], _∷_}
-use Prim.Native.Nat.{ℕ}
+use Prim.Native.Nat.{ℕ, _+_}
 use Rattle.words.specs.declared.Footer.{Footer}
-use Rattle.rules.specs.Rules.{faultOf, footerFault, kindOf, recordOf, nextOf, sizeBy, furtherRecords, withOffset, counts, movedTo, start}
+use Rattle.rules.specs.Rules.{faultOf, footerFault, kindOf, recordOf, nextOf, sizeBy, same31, furtherRecords, withOffset, counts, movedTo, start}
 use Rattle.rules.specs.Held.{held}
 use Rattle.rules.specs.Kinds.{rowOf, sameKind, isDue, notDue}
 use Rattle.rules.specs.Verdicts.{refused, refusalAt, verdictAt, numbersOf, summaryOf}
@@ -120,6 +120,13 @@ wrongs =
     ∷ (furtherRecords flag30 5 not 5 by number)
     -- bits 30 and 31 exchanged
     ∷ (furtherRecords flag31 5 not 6 by number)
+    -- ## `same_31`
+    -- bit 30 compared instead of bit 31
+    ∷ (same31 flag31 0 not true by truth)
+    -- the whole flags compared
+    ∷ (same31 (flag31 + flag30) flag31 not false by truth)
+    -- bit 31 asked of both
+    ∷ (same31 0 0 not false by truth)
     ∷ []
 
 pub rules-refuted : Refuted wrongs

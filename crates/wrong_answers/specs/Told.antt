@@ -11,8 +11,10 @@ use Rattle.writer.specs.declared.Fields.{Fields}
 use Rattle.writer.specs.declared.Answer.{Answer}
 use Rattle.finder.specs.declared.FoundChunk.{FoundChunk}
 use Rattle.finder.specs.declared.FoundFile.{FoundFile}
+use Rattle.join.specs.declared.Joined.{Joined}
 use Rattle.host.specs.Boundary.{mark, dueOut, offerBy, saidOut, refusalIn, wroteOut, refusalOf}
 use Rattle.host.specs.Founds.{chunkOut, fileOut}
+use Rattle.host.specs.Joins.{joinedOut}
 
 abbrev pub number : ℕ → List ℕ
 number n = n ∷ []
@@ -45,3 +47,6 @@ chunkTold f = chunkOut f .said ∷ chunkOut f .block ∷ chunkOut f .index ∷ c
 
 abbrev pub fileTold : FoundFile → List ℕ
 fileTold f = fileOut f .said ∷ fileOut f .file ∷ fileOut f .at ∷ fileOut f .number ∷ []
+
+abbrev pub joinedTold : Joined → List ℕ
+joinedTold j = joinedOut j .wrote ∷ joinedOut j .at ∷ joinedOut j .number ∷ []

@@ -17,6 +17,7 @@ main-spec =
     μ-loop
     (λ c. tt)
     (λ c. λ κs. tt)
+    (λ c. λ κs. tt)
     (λ c. omega arith)
     (λ c. omega arith)
     (λ c. tt)
