@@ -4,13 +4,13 @@ use crate::{ffi, Position};
 use std::error::Error;
 use std::fmt;
 
-/// Why a shard, a tag or an offer was refused, and where.
+/// Why a shard, a tag, an offer or a join was refused, and where.
 #[derive(Clone, Copy, Debug, PartialEq, Eq, Hash)]
 pub struct Refusal {
-    /// The number, 1 to 16.
+    /// The number, 1 to 16 or 30.
     pub number: u32,
     /// Where the record starts that is at fault or missing; of 14 the first byte too many, of 15 and 16 where the writer
-    /// stands.
+    /// stands. Of two shards that can't be joined it is 0.
     pub position: Position,
 }
 
@@ -23,7 +23,7 @@ impl Refusal {
             3 => "the header has another tag",
             4 => "the header's version is not 2",
             5 => "the header's footer size is neither 0 nor 200",
-            6 => "a head declares more records than a shard of 16,777,216 bytes holds",
+            6 => "a head declares more records than a shard of 16,777,216 bytes holds, or a joined shard would be longer",
             7 => "a reserved byte, or a flag bit without a meaning, is not 0",
             8 => "a hash of all ones stands at a head that is no bookend",
             9 => "some files have verifications and others have none",
@@ -32,8 +32,9 @@ impl Refusal {
             12 => "the footer's version is not 1",
             13 => "an offset in the footer is wrong",
             14 => "something follows the end of the shard",
-            15 => "the buffer is shorter than the record",
+            15 => "the buffer is shorter than the record, or than the joined shard",
             16 => "this kind of record is not due now",
+            30 => "a shard to be joined has a footer",
             _ => "the refusal has no known number",
         }
     }

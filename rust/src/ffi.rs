@@ -142,6 +142,14 @@ pub struct FoundFile {
     pub file: u32,
 }
 
+#[derive(Clone, Copy, Debug)]
+#[repr(C)]
+pub struct Joined {
+    pub wrote: u64,
+    pub at: u64,
+    pub number: u32,
+}
+
 /// What a call of the reader says: nothing yet, a record, a refusal. A search: absent, found, refused.
 pub const NOTHING: u32 = 0;
 pub const FOUND: u32 = 1;
@@ -189,6 +197,16 @@ extern "C" {
         length: usize,
         hash: Hash,
     ) -> FoundFile;
+    fn mdb_join(
+        tag: *const u8,
+        tag_length: usize,
+        first: *const u8,
+        first_length: usize,
+        second: *const u8,
+        second_length: usize,
+        out: *mut u8,
+        out_length: usize,
+    ) -> Joined;
 }
 
 pub fn reader_new(tag: &[u8]) -> Reader {
@@ -280,6 +298,23 @@ pub fn find_file(tag: &[u8], shard: &[u8], hash: Hash) -> FoundFile {
     unsafe { mdb_find_file(tag.as_ptr(), tag.len(), shard.as_ptr(), shard.len(), hash) }
 }
 
+pub fn join(tag: &[u8], first: &[u8], second: &[u8], out: &mut [u8]) -> Joined {
+    // SAFETY: all four slices outlive the call, which only reads the first three and writes within the last; being `&mut`, that
+    // overlaps none of them. The pointer of an empty slice is not null.
+    unsafe {
+        mdb_join(
+            tag.as_ptr(),
+            tag.len(),
+            first.as_ptr(),
+            first.len(),
+            second.as_ptr(),
+            second.len(),
+            out.as_mut_ptr(),
+            out.len(),
+        )
+    }
+}
+
 /// The sizes that the C declarations have.
 const _: () = {
     assert!(size_of::<Totals>() == 40);
@@ -296,4 +331,5 @@ const _: () = {
     assert!(size_of::<Hash>() == 32);
     assert!(size_of::<FoundChunk>() == 24);
     assert!(size_of::<FoundFile>() == 24);
+    assert!(size_of::<Joined>() == 24);
 };

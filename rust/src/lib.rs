@@ -2,9 +2,10 @@
 //!
 //! - [`Reader`] reads a shard in pieces, [`Writer`] writes one record by record.
 //! - [`judge`] answers for a whole shard in a buffer, [`find_chunk`] and [`find_file`] look for a hash in it.
+//! - [`join_into`] joins two shards into a lent buffer, [`join`] a list of them.
 //!
 //! The proved part is the archive `libmelagbosun.a`, for x86-64 only; `./archive` at the top of the repository makes it.
-//! This crate adds types around it and no rules. It allocates nothing.
+//! This crate adds types around it and no rules. Only [`join`] allocates.
 //!
 //! ```
 //! use melagbosun::{Reader, Record};
@@ -32,12 +33,14 @@
 mod error;
 mod ffi;
 mod find;
+mod join;
 mod reader;
 mod record;
 mod writer;
 
 pub use error::{Refusal, Summary, Totals, Verdict};
 pub use find::{find_chunk, find_file, judge, FoundChunk, FoundFile};
+pub use join::{join, join_into};
 pub use reader::{Reader, Said, Step};
 pub use record::{BlockNumber, ChunkIndex, FileNumber, Hash, Position, Record};
 pub use writer::{Offer, Writer};
