@@ -1,8 +1,11 @@
 //! The form of the two files of a casebook: cases with the lengths of their
-//! pieces in, all that is made of each out.
+//! pieces, and two shards to be joined with a buffer, in; all that is made of
+//! each out.
 
 use crate::cases::{random_cut_case, Case};
+use crate::draw::{Draw, ROOMS};
 use crate::generate::Rng;
+use crate::join::join;
 use crate::reader::{
     find_chunk, find_file, hash_at, judge, Answer, Fields, Hash, Kind, Reader, Record, Refusal,
     Verdict, ALL_ONES,
@@ -15,7 +18,11 @@ pub const CASES: u64 = 40;
 /// Their seed, which brings every number of a reader.
 pub const SEED: u64 = 2_767;
 
-/// A case, and the lengths of the pieces that it is read in.
+/// The longest shard that the program reads.
+const MOST: usize = 8_192;
+
+/// A case, and the lengths of the pieces that it is read in; two shards to be
+/// joined, and the buffer that is lent for it.
 #[derive(Clone, Debug)]
 pub struct Entry {
     /// The case.
@@ -23,6 +30,10 @@ pub struct Entry {
     /// The lengths, used over and over; none is one piece. A 0 is an empty
     /// piece and then one of a byte.
     pub pieces: Vec<u8>,
+    /// The shards to be joined.
+    pub pair: Draw,
+    /// The buffer.
+    pub buffer: Vec<u8>,
 }
 
 impl Entry {
@@ -34,14 +45,29 @@ impl Entry {
         let longest = rng.pick(&[1, 10, 60, 255]);
         let count = rng.pick(&[0, 1, 2, 7]);
         let pieces = (0..count).map(|_| rng.below(longest + 1) as u8).collect();
-        Entry { case, pieces }
+        let pair = Draw::short_pair(rng, number, MOST);
+        let room = rng.pick(&ROOMS).bytes(rng, &pair);
+        let buffer = (0..room).map(|_| rng.word() as u8).collect();
+        Entry {
+            case,
+            pieces,
+            pair,
+            buffer,
+        }
     }
 
-    /// Its bytes in the input file: the case, K and K lengths.
+    /// Its bytes in the input file: the case, K and K lengths; then in the form
+    /// of a case the tag and the first shard, and the second shard and the
+    /// buffer, each behind its length.
     pub fn encode(&self) -> Vec<u8> {
         let mut bytes = encode(&self.case.tag, &self.case.shard);
         bytes.push(self.pieces.len() as u8);
         bytes.extend(&self.pieces);
+        bytes.extend(encode(&self.pair.tag, &self.pair.shards[0]));
+        for part in [&self.pair.shards[1], &self.buffer] {
+            bytes.extend((part.len() as u32).to_le_bytes());
+            bytes.extend(part);
+        }
         bytes
     }
 
@@ -55,7 +81,30 @@ impl Entry {
         lines.push(chunk_line(tag, shard, last_hash(&records, Kind::Chunk)));
         lines.push(file_line(tag, shard, last_hash(&records, Kind::FileHead)));
         lines.push(written_line(tag, shard, &records));
+        lines.push(self.joined_line());
         (lines.join("\n") + "\n", verdict)
+    }
+
+    /// What joining answers.
+    pub fn joined(&self, buffer: &mut [u8]) -> Result<usize, Refusal> {
+        join(
+            &self.pair.tag,
+            &self.pair.shards[0],
+            &self.pair.shards[1],
+            buffer,
+        )
+    }
+
+    /// That, and a sum that tells where each byte of the buffer stands after it.
+    fn joined_line(&self) -> String {
+        let mut buffer = self.buffer.clone();
+        let said = match self.joined(&mut buffer) {
+            Ok(size) => format!("ok {size}"),
+            Err(refusal) => line(&Err(refusal)),
+        };
+        let add = |sum: u64, &byte: &u8| (sum * 257 + u64::from(byte)) % 4_294_967_291;
+        let sum = buffer.iter().fold(0, add);
+        format!("joined {said}, the buffer's sum {sum}")
     }
 
     /// The records and the verdict of a reader on these pieces.

@@ -1,7 +1,8 @@
-//! An independent reader of shards and a seeded maker of good and damaged ones.
+//! An independent reader of shards, a join of two, and a seeded maker of good
+//! and damaged ones.
 //!
-//! Written from the paper `01-scope.md` alone. It shares no code with the
-//! product it checks.
+//! Written from the paper `01-scope.md` and the request T-14 of
+//! `02-change-requests.md` alone. It shares no code with the product it checks.
 
 #![forbid(unsafe_code)]
 #![warn(missing_docs)]
@@ -9,7 +10,9 @@
 pub mod casebook;
 pub mod cases;
 pub mod damage;
+pub mod draw;
 pub mod examples;
 pub mod generate;
+pub mod join;
 pub mod reader;
 pub mod vectors;

@@ -192,7 +192,7 @@ pub struct Record {
 /// A refusal: the paper's number and the position it carries.
 #[derive(Clone, Copy, Debug, PartialEq, Eq)]
 pub struct Refusal {
-    /// The number, 1 to 14.
+    /// The number; a reader's is 1 to 14.
     pub number: u8,
     /// The position.
     pub position: Position,

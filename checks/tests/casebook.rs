@@ -30,6 +30,25 @@ fn every_number_is_seen() {
     assert_eq!(seen, (0..=14).collect::<Vec<u8>>());
 }
 
+/// Joins that are accepted and refused by either shard, and each number of a
+/// join but 6, which takes longer shards than the program reads.
+#[test]
+fn every_join_is_seen() {
+    let joins = (0..CASES).map(|case| {
+        let mut entry = Entry::random(SEED, case);
+        let mut buffer = std::mem::take(&mut entry.buffer);
+        entry.joined(&mut buffer)
+    });
+    let mut seen: Vec<u8> = joins
+        .map(|joined| joined.err().map_or(0, |refusal| refusal.number))
+        .collect();
+    seen.sort_unstable();
+    seen.dedup();
+    for number in [0, 9, 15, 30] {
+        assert!(seen.contains(&number), "{number} is not among {seen:?}");
+    }
+}
+
 /// However a case is cut, its lines are the same.
 #[test]
 fn pieces_change_no_line() {

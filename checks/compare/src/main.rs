@@ -1,11 +1,15 @@
-//! `compare N SEED`: N generated inputs, given to the independent reader and to the proved library. Nothing may differ.
+//! `compare N SEED`: N generated inputs, given to the independent reader and to the proved library, and shards joined by both.
+//! Nothing may differ.
 
+mod join;
 mod read;
 mod same;
+mod sights;
 mod write;
 
 use checks::cases::{random_case, Case};
 use checks::generate::Rng;
+use sights::Sights;
 use std::env;
 use std::process::ExitCode;
 
@@ -74,26 +78,48 @@ fn report(seen: &Seen) {
     }
 }
 
+fn inputs(count: u64, seed: u64, seen: &mut Seen) -> Checked {
+    let mut rng = Rng::new(seed);
+    for number in 0..count {
+        let case = next_case(&mut rng);
+        check(&case, &mut rng, seen).map_err(|difference| {
+            let family = case.family;
+            let (tag, shard) = (hex(&case.tag), hex(&case.shard));
+            format!("input {number} of seed {seed} ({family}): {difference}\n  tag:   {tag}\n  shard: {shard}")
+        })?;
+    }
+    Ok(())
+}
+
+/// Compares and reports all; an error is a difference, or something that was seen too seldom.
+fn compare(count: u64, seed: u64) -> Checked {
+    let mut seen = Seen::default();
+    let mut joins = Sights::default();
+    inputs(count, seed, &mut seen)?;
+    join::compare(count, seed, &mut joins)?;
+    report(&seen);
+    joins.report();
+    joins.enough(count)?;
+    let Sights {
+        pairs,
+        triples,
+        lists,
+        ..
+    } = joins;
+    println!("{pairs} pairs, {triples} triples and {lists} lists joined, 0 differences");
+    println!("{count} inputs, 0 differences");
+    Ok(())
+}
+
 fn main() -> ExitCode {
     let numbers: Vec<u64> = env::args().skip(1).map_while(|n| n.parse().ok()).collect();
     let &[count, seed] = &numbers[..] else {
         eprintln!("usage: compare N SEED");
         return ExitCode::FAILURE;
     };
-    let mut rng = Rng::new(seed);
-    let mut seen = Seen::default();
-    for number in 0..count {
-        let case = next_case(&mut rng);
-        if let Err(difference) = check(&case, &mut rng, &mut seen) {
-            println!(
-                "input {number} of seed {seed} ({}): {difference}",
-                case.family
-            );
-            println!("  tag:   {}\n  shard: {}", hex(&case.tag), hex(&case.shard));
-            return ExitCode::FAILURE;
-        }
+    if let Err(difference) = compare(count, seed) {
+        println!("{difference}");
+        return ExitCode::FAILURE;
     }
-    report(&seen);
-    println!("{count} inputs, 0 differences");
     ExitCode::SUCCESS
 }
