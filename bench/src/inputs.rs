@@ -67,14 +67,18 @@ pub fn empty() -> Input {
 
 /// One xorb of 300,000 chunks.
 pub fn chunks() -> Input {
-    const COUNT: u32 = 300_000;
+    xorb("300,000 chunks", 300_000)
+}
+
+/// One xorb of so many chunks.
+fn xorb(name: &'static str, count: u32) -> Input {
     const BYTES: u32 = 10_000;
     let mut hashes = Hashes(1);
     let head = Offer::XorbHead {
         hash: hashes.next().unwrap_or_default(),
         flags: 0,
-        entries: COUNT,
-        bytes: COUNT * BYTES,
+        entries: count,
+        bytes: count * BYTES,
         on_disk: 12_345,
     };
     let chunk = |(i, hash): (u32, Hash)| Offer::Chunk {
@@ -83,17 +87,21 @@ pub fn chunks() -> Input {
         bytes: BYTES,
     };
     let mut offers = vec![Offer::Header { footer_size: 0 }, Offer::SectionEnd, head];
-    offers.extend((0..COUNT).zip(hashes).map(chunk));
+    offers.extend((0..count).zip(hashes).map(chunk));
     offers.push(Offer::SectionEnd);
-    Input::new("300,000 chunks", offers, 1)
+    Input::new(name, offers, 1)
 }
 
 /// 100,000 files of one segment.
 pub fn files() -> Input {
-    const COUNT: u32 = 100_000;
+    segments("100,000 files", 100_000)
+}
+
+/// So many files of one segment.
+fn segments(name: &'static str, count: u32) -> Input {
     let mut hashes = Hashes(2);
     let mut offers = vec![Offer::Header { footer_size: 0 }];
-    for i in 0..COUNT {
+    for i in 0..count {
         let mut hash = || hashes.next().unwrap_or_default();
         offers.push(Offer::FileHead {
             hash: hash(),
@@ -109,5 +117,14 @@ pub fn files() -> Input {
         });
     }
     offers.extend([Offer::SectionEnd; 2]);
-    Input::new("100,000 files", offers, 1)
+    Input::new(name, offers, 1)
+}
+
+/// The shards that are joined, each with itself: as long as two of them together may be.
+pub fn halves() -> [Input; 3] {
+    [
+        empty(),
+        xorb("150,000 chunks", 150_000),
+        segments("50,000 files", 50_000),
+    ]
 }

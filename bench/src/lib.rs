@@ -1,6 +1,7 @@
 //! What is timed: the inputs, an ordinary reader, and the consumer of the records.
 
 pub mod inputs;
+pub mod measured;
 pub mod ordinary;
 
 use melagbosun::Record;

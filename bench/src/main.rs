@@ -1,7 +1,10 @@
 //! `bench ROUNDS` times everything and prints a table; `bench count WAY TIMES` reads 300,000 chunks so often by one way, for
 //! an instruction counter.
 
+mod joining;
+
 use bench::inputs::{chunks, empty, files, tag, Input};
+use bench::measured::{beside, print, Measured};
 use bench::{fold, ordinary::Ordinary};
 use melagbosun::{Reader, Said, Writer};
 use std::hint::black_box;
@@ -132,34 +135,6 @@ fn timed(way: &Way, input: &Input, buffer: &mut [u8]) -> (f64, u64) {
     (time.as_nanos() as f64 / input.records() as f64, sum)
 }
 
-/// What a way's rounds come to, in nanoseconds per record, and how many times the ordinary reader's time that is.
-struct Measured {
-    median: f64,
-    ratio: f64,
-    least: f64,
-    least_ratio: f64,
-}
-
-fn median(mut numbers: Vec<f64>) -> f64 {
-    numbers.sort_by(f64::total_cmp);
-    numbers[numbers.len() / 2]
-}
-
-fn least(numbers: &[f64]) -> f64 {
-    numbers.iter().copied().fold(f64::INFINITY, f64::min)
-}
-
-/// The rounds of a way beside those of the ordinary reader: the ratio is the median of the rounds' ratios.
-fn beside(times: &[f64], ordinary: &[f64]) -> Measured {
-    let ratios = times.iter().zip(ordinary).map(|(time, of)| time / of);
-    Measured {
-        median: median(times.to_vec()),
-        ratio: median(ratios.collect()),
-        least: least(times),
-        least_ratio: least(times) / least(ordinary),
-    }
-}
-
 /// The times of all ways on one input, round by round one after the other. All readers must come to the same sum, and the
 /// writer to the same bytes.
 fn measured(input: &Input, rounds: usize) -> Vec<Measured> {
@@ -178,31 +153,16 @@ fn measured(input: &Input, rounds: usize) -> Vec<Measured> {
             }
         }
     }
-    times.iter().map(|one| beside(one, &times[0])).collect()
+    beside(&times)
 }
 
 fn table(rounds: usize) {
     let inputs = [empty(), chunks(), files()];
     let all: Vec<_> = inputs.iter().map(|one| measured(one, rounds)).collect();
-    let names: Vec<&str> = inputs.iter().map(|input| input.name).collect();
-    type Cell = fn(&Measured) -> [f64; 2];
-    let titles: [(&str, Cell); 2] = [
-        ("ns per record, median", |m| [m.median, m.ratio]),
-        ("ns per record, fastest round", |m| [m.least, m.least_ratio]),
-    ];
-    for (title, cell) in titles {
-        println!("| {title} | {} |", names.join(" | "));
-        println!("|---|{}", "---:|".repeat(inputs.len()));
-        for (i, way) in WAYS.iter().enumerate() {
-            let cells = all.iter().map(|one| {
-                let [time, ratio] = cell(&one[i]);
-                format!("{time:.1} ({ratio:.2}×)")
-            });
-            let cells: Vec<String> = cells.collect();
-            println!("| {} | {} |", way.name, cells.join(" | "));
-        }
-        println!();
-    }
+    let columns: Vec<&str> = inputs.iter().map(|input| input.name).collect();
+    let rows: Vec<&str> = WAYS.iter().map(|way| way.name).collect();
+    print("record", &columns, &rows, &all);
+    joining::table(rounds);
 }
 
 fn count(key: &str, times: usize) -> Option<u64> {
