@@ -2,11 +2,12 @@
  * `cc program.c -Iinclude -Ltarget/staticlib -lmelagbosun`.
  *
  * No call keeps, allocates or frees anything: a state goes in by value and the next one comes back in the answer. A lent
- * slice is a pointer and a length; an empty one may have any pointer but NULL, and those lent to one call do not overlap.
+ * slice is a pointer and a length; an empty one may have any pointer but NULL, and one that is written overlaps no other of
+ * the same call.
  *
  * Each function is proved to answer, for every state and all bytes, what crates/host/specs says, by way of the specs of
- * reader, writer and finder. A state that was not given out by these functions still gets an answer and touches nothing but
- * the lent bytes.
+ * reader, writer, finder and join. A state that was not given out by these functions still gets an answer and touches nothing
+ * but the lent bytes.
  */
 #ifndef MELAGBOSUN_H
 #define MELAGBOSUN_H
@@ -18,25 +19,27 @@
 extern "C" {
 #endif
 
-/* Why a shard, a tag or an offer was refused. Unless another is named, the position is that where the record starts. */
+/* Why a shard, a tag, an offer or a join was refused. Unless another is named, the position is that where the record starts. */
 enum mdb_refusal {
     MDB_ENDS_EARLY = 1,      /* the input ends inside or before a record still due */
     MDB_TAG_LENGTH = 2,      /* the tag is not 32 bytes; position 0 */
     MDB_TAG = 3,             /* header: another tag */
     MDB_VERSION = 4,         /* header: the version is not 2 */
     MDB_FOOTER_SIZE = 5,     /* header: the footer size is neither 0 nor 200 */
-    MDB_LIMIT = 6,           /* a head declares more than 16777216 bytes hold */
+    MDB_LIMIT = 6,           /* a head declares more than 16777216 bytes hold; join: the result would be longer, position 0 */
     MDB_RESERVED = 7,        /* a reserved byte or an unnamed flag bit is not 0 */
     MDB_ALL_ONES = 8,        /* a hash of all ones at a head, with a tail that is not zero; writer: any such hash offered in a head */
-    MDB_BIT_31 = 9,          /* bit 31 of a file's flags differs from the first file's */
+    MDB_BIT_31 = 9,          /* bit 31 of a file's flags differs from the first file's; join: from those of the other shard's files,
+                                position 0 */
     MDB_SEGMENT = 10,        /* a segment's chunk start is not below its chunk end */
     MDB_CHUNK_SUM = 11,      /* chunks do not follow each other, or do not sum to the head's bytes in xorb */
     MDB_FOOTER_VERSION = 12, /* footer: the version is not 1 */
     MDB_OFFSET = 13,         /* footer: one of the three offsets is wrong */
     MDB_AFTER_END = 14,      /* a byte follows the end; position of that byte */
     MDB_BUFFER = 15,         /* writer: the buffer is shorter than the record; reader: the carry is shorter than MDB_CARRY, or the
-                                table than a row */
-    MDB_NOT_DUE = 16         /* writer: this kind of record is not due now, or there is no such kind */
+                                table than a row; join: the buffer is shorter than the result, position 0 */
+    MDB_NOT_DUE = 16,        /* writer: this kind of record is not due now, or there is no such kind */
+    MDB_HAS_FOOTER = 30      /* join: one of the shards has a footer; position 0 */
 };
 
 /* The kinds of record, in the order of the paper's table. */
@@ -157,12 +160,25 @@ typedef struct {
     uint32_t number;   /* enum mdb_refusal, else 0 */
 } mdb_written;
 
+typedef struct {
+    uint64_t wrote;  /* bytes written at the start of the buffer; 0: refused, and no byte changed */
+    uint64_t at;     /* position of the refusal, else 0 */
+    uint32_t number; /* enum mdb_refusal, else 0 */
+} mdb_joined;
+
 /* The verdict on a whole shard. */
 mdb_verdict mdb_judge(const uint8_t *tag, size_t tag_length, const uint8_t *shard, size_t length);
 
 /* The first chunk, and the first file, with that hash. A refused shard gives its refusal. */
 mdb_found_chunk mdb_find_chunk(const uint8_t *tag, size_t tag_length, const uint8_t *shard, size_t shard_length, mdb_hash hash);
 mdb_found_file mdb_find_file(const uint8_t *tag, size_t tag_length, const uint8_t *shard, size_t shard_length, mdb_hash hash);
+
+/* One shard of two without footer: the first one's files, then the second's, and the same for xorbs, duplicates kept. It is
+ * as long as both together less 144 bytes; no byte of the buffer behind it changes. Refused in this order: the first shard's
+ * refusal, the second's, 30, 9, 6, 15. The two shards may be the same bytes. To join more, join the next one to the result: in
+ * whatever grouping, those of one order give the same bytes, and a shard of 144 bytes changes nothing. */
+mdb_joined mdb_join(const uint8_t *tag, size_t tag_length, const uint8_t *first, size_t first_length,
+                    const uint8_t *second, size_t second_length, uint8_t *buffer, size_t buffer_length);
 
 /* A fresh reader. A tag that is not 32 bytes gives one that has refused with 2. */
 mdb_reader mdb_reader_new(const uint8_t *tag, size_t length);
