@@ -10,11 +10,11 @@ fn read(path: &Path) -> Result<Vec<u8>, String> {
     fs::read(path).map_err(|error| format!("{}: {error}", path.display()))
 }
 
-/// A shard, judged here so that a refusal names its file.
-fn accepted(tag: &[u8], path: &Path) -> Result<Vec<u8>, String> {
+/// A shard that can be joined. `join` would say so too; it is asked here so that what is said names the file.
+fn joinable(tag: &[u8], path: &Path) -> Result<Vec<u8>, String> {
     let shard = read(path)?;
-    match judge(tag, &shard) {
-        Ok(_) => Ok(shard),
+    match join(tag, &[&shard]) {
+        Ok(same) => Ok(same),
         Err(refusal) => Err(format!("{}: {refusal}", path.display())),
     }
 }
@@ -27,7 +27,7 @@ fn run() -> Result<Summary, Box<dyn Error>> {
     let tag = fs::read(first.with_file_name("tag.bin")).unwrap_or_default();
     let shards = paths[1..]
         .iter()
-        .map(|path| accepted(&tag, path))
+        .map(|path| joinable(&tag, path))
         .collect::<Result<Vec<_>, _>>()?;
     let slices: Vec<&[u8]> = shards.iter().map(Vec::as_slice).collect();
     let joined = join(&tag, &slices)?;
