@@ -22,11 +22,15 @@ use Rattle.join.specs.declared.Joined.the-variants.{Wrote, Refused}
 abbrev pub part : ℕ → ℕ → List ℕ → List ℕ
 part from to s = take (to - from) (drop from s)
 
--- Two shards without footer, whose xorb offsets are x and y. The parts that are copied, in their order:
+-- Two shards without footer, of n and m bytes, whose xorb offsets are x and y. The parts that are copied, in their order:
 --
---     first   | header  files | bookend | xorbs |  bookend  |         second  |  header |  files  bookend | xorbs  bookend |
---             0            x - 48       x    length - 48  length              0        48                 y             length
---             |------ 1 ------|         |-- 3 --|                                       |------- 2 -------|------ 4 -------|
+--     first   | header  files | bookend | xorbs    | bookend |
+--             0               x - 48    x          n - 48    n
+--             |------ 1 ------|         |--- 3 ----|
+--
+--     second  | header | files  bookend | xorbs  bookend |
+--             0        48               y                m
+--                      |------ 2 -------|------ 4 -------|
 unfoldable pub joinedAt : List ℕ → ℕ → List ℕ → ℕ → List ℕ
 joinedAt first x second y = take (x - 48) first ++ part 48 y second ++ part x (length first - 48) first ++ part y (length second) second
 

@@ -11,6 +11,7 @@ pub(crate) fn put_joined(first: &[u8], x: usize, second: &[u8], y: usize, out: &
     requires { ⌜ Parted (now first) x × Parted (now second) y × (length (now first) + length (now second) ≤ length (now out) + 144) ⌝ }
     ensures { λ _. ⌜ now (out .exit) ≡ puts (now (out .entry)) 0 (joinedAt (now (first .entry)) x (now (second .entry)) y) ⌝ }
 {
+    // The lengths of the four parts.
     let a = x - Words::SIZE;
     let b = y - Words::SIZE;
     let c = first.len() - Words::SIZE - x;
