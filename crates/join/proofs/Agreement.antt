@@ -17,31 +17,17 @@ use Rattle.rules.specs.Rules.{same31, start, nextOf}
 use Rattle.rules.specs.declared.Place.{Place}
 use Rattle.layout.specs.Layout.{FileBlock, Shard, Row, Each, has, verified, flagsOf, Agree, joined, fileRows, fileHeadRow, headerRow, bookend, fileSection, xorbSection, rowsOf, spellRows}
 use Rattle.layout.proofs.Flags.{flags-31, bit-same, same-bit}
+use Rattle.layout.proofs.Lists.{each-append, each-first, each-second}
 use Rattle.layout.proofs.Rows.{Goes, stepped}
 use Rattle.layout.proofs.ShardForth.{shard-go}
 use Rattle.join.specs.Join.{firstFlags}
 use Rattle.join.specs.Claims.{firstsAgree}
 use Rattle.join.proofs.Spelled.{Spelling, headBytes, fileBytes, endBytes, xorbBytes, inOrder, bytes-are}
 
--- ## Lists of which each has something
-
-module _ {A : Type 0} (P : A → Type 0) where
-  pub each-append : (xs ys : List A) → Each P xs → Each P ys → Each P (xs ++ ys)
-  each-append [] ys a b = b
-  each-append (x ∷ xs) ys (h, a) b = (h, each-append xs ys a b)
-
-  pub each-first : (xs ys : List A) → Each P (xs ++ ys) → Each P xs
-  each-first [] ys a = tt
-  each-first (x ∷ xs) ys (h, a) = (h, each-first xs ys a)
-
-  pub each-second : (xs ys : List A) → Each P (xs ++ ys) → Each P ys
-  each-second [] ys a = a
-  each-second (x ∷ xs) ys (h, a) = each-second xs ys a
+-- ## Joined
 
 abbrev All : Bool → List FileBlock → Type 0
 All v fs = Each (λ f. verified f ≡ v) fs
-
--- ## Joined
 
 -- the first ones agree, where both lists have one
 abbrev pub SameFirst : List FileBlock → List FileBlock → Type 0
@@ -78,6 +64,7 @@ flags-same f g e = sym (flags-31 (verified g) (has (g .metadata))) ∙ sym (same
 
 -- ## The flags of the first file
 
+-- its numbers fit in their fields, because its row is a good one
 whole-first : (tag : List ℕ) (q : Place) (h : Row) (l : List FileBlock) (rs more : List Row) (f : FileBlock) (fs : List FileBlock) → l ≡ f ∷ fs
     → Goes tag start (h ∷ (joined fileRows l ++ rs ++ more)) q → Whole (fileHeadRow f .words)
 unfolding fileRows
@@ -94,15 +81,15 @@ first-bytes l f fs e rest = rw e (take-48 (spellWords (fileHeadRow f .words)) _ 
     take-48 : (w more rest : List ℕ) → length w ≡ 48 → take 48 (w ++ more ++ rest) ≡ w
     take-48 w more rest n = rw append-assoc (take-at w (more ++ rest) 48 n)
 
-first-flags : (tag first : List ℕ) (s : Shard) (f : FileBlock) (fs : List FileBlock) → Bytes tag → Spelling tag first s → s .footer ≡ none → s .files ≡ f ∷ fs → firstFlags first ≡ flagsOf f
+first-flags : (tag bytes : List ℕ) (s : Shard) (f : FileBlock) (fs : List FileBlock) → Bytes tag → Spelling tag bytes s → s .footer ≡ none → s .files ≡ f ∷ fs → firstFlags bytes ≡ flagsOf f
 unfolding rowsOf fileSection
-first-flags tag first s f fs b o e h =
+first-flags tag bytes s f fs b o e h =
     let go = shard-go tag s b (o .spells .sound) in
     let w : Words = fileHeadRow f .words in
     let k : Whole w = whole-first (hashAt tag 0) (go .last) (headerRow tag s) (s .files) (bookend ∷ []) (xorbSection s) f fs h (go .goes) in
-    let a : first ≡ inOrder (headBytes tag) endBytes (fileBytes s) (xorbBytes s) = sym (o .spells .spelled) ∙ bytes-are tag s e in
-    let d : drop 48 first ≡ fileBytes s ++ (endBytes ++ (xorbBytes s ++ endBytes)) = ap (drop 48) a ∙ drop-at (headBytes tag) _ 48 (length-words _) in
-    let r : wordsAt first 48 ≡ w = sym (words-there 48 first 48 0 48 (omega arith) (omega arith)) ∙ ap (λ (x : List ℕ). wordsAt (take 48 x) 0) d
+    let a : bytes ≡ inOrder (headBytes tag) endBytes (fileBytes s) (xorbBytes s) = sym (o .spells .spelled) ∙ bytes-are tag s e in
+    let d : drop 48 bytes ≡ fileBytes s ++ (endBytes ++ (xorbBytes s ++ endBytes)) = ap (drop 48) a ∙ drop-at (headBytes tag) _ 48 (length-words _) in
+    let r : wordsAt bytes 48 ≡ w = sym (words-there 48 bytes 48 0 48 (omega arith) (omega arith)) ∙ ap (λ (x : List ℕ). wordsAt (take 48 x) 0) d
     ∙ ap (λ (x : List ℕ). wordsAt x 0) (first-bytes (s .files) f fs h (endBytes ++ (xorbBytes s ++ endBytes))) ∙ words-spell w k in
     ap (λ (x : Words). x .a) r
 
@@ -130,12 +117,12 @@ firsts-test [] gs h = refl
 firsts-test (f ∷ fs) [] h = refl
 firsts-test (f ∷ fs) (g ∷ gs) h = same-flags f g h
 
-flags-are : (tag first : List ℕ) (s : Shard) → Bytes tag → Spelling tag first s → s .footer ≡ none → FlagsAre (firstFlags first) (s .files)
-flags-are tag first s b o e = go (s .files) refl
+flags-are : (tag bytes : List ℕ) (s : Shard) → Bytes tag → Spelling tag bytes s → s .footer ≡ none → FlagsAre (firstFlags bytes) (s .files)
+flags-are tag bytes s b o e = go (s .files) refl
   where
-    go : (l : List FileBlock) → s .files ≡ l → FlagsAre (firstFlags first) l
+    go : (l : List FileBlock) → s .files ≡ l → FlagsAre (firstFlags bytes) l
     go [] h = tt
-    go (f ∷ fs) h = first-flags tag first s f fs b o e h
+    go (f ∷ fs) h = first-flags tag bytes s f fs b o e h
 
 pub test-agrees : (tag first second : List ℕ) (s t : Shard) → Bytes tag → Spelling tag first s → Spelling tag second t → s .footer ≡ none → t .footer ≡ none
     → agreeTest (length (s .files)) (length (t .files)) (firstFlags first) (firstFlags second) ≡ firstsAgree (s .files) (t .files)

@@ -1,4 +1,4 @@
--- Bytes are written exactly if the trees fit together and there is room, because the four checks are just that. Assumes nothing.
+-- Bytes are written exactly if the trees can be joined and there is room, because the four checks are just that. Assumes nothing.
 use mathlib.Core.Path.{_≡_, refl, sym, _∙_, subst}
 use mathlib.Core.Bool.{Bool, true, false, _||_, not, true≢false}
 use mathlib.Core.Option.{Option, none, some}
@@ -16,12 +16,13 @@ use Rattle.rules.specs.declared.Summary.{Summary}
 use Rattle.layout.specs.Layout.{Foot, Shard, has, lengthOf, totalsOf, Sound, SoundFile, SoundXorb}
 use Rattle.layout.specs.Claim.{Spells}
 use Rattle.layout.proofs.Checks.{passed}
+use Rattle.layout.proofs.Lists.{each-append}
 use Rattle.join.specs.Join.{firstFlags, joinedLength, joinFault, faultFor, answerBy, answerFor, joinOf, joinedBytes}
 use Rattle.join.specs.Claims.{joinTree, Joins, firstsAgree, treeFault, JoinsIn}
 use Rattle.join.specs.declared.Joined.the-variants.{Wrote, Refused}
 use Rattle.join.proofs.Spelled.{Spelling}
 use Rattle.join.proofs.Sections.{bytes-joined, length-both}
-use Rattle.join.proofs.Agreement.{each-append, SameFirst, agree-both, agree-firsts, test-firsts, firsts-test, test-agrees}
+use Rattle.join.proofs.Agreement.{SameFirst, agree-both, agree-firsts, test-firsts, firsts-test, test-agrees}
 
 -- what is found of a tree
 abbrev pub summaryFor : Shard → Summary
@@ -35,10 +36,17 @@ answer-wrote number size n e = go (eqb number 0) refl e
     go true h e = (eqb-true _ _ h, cc)
     go false h e = let z : _≡_ {A = ℕ} 0 1 = cc in absurd (omega arith)
 
+pub both-false : (x y : Bool) → (x || y) ≡ false → (x ≡ false) × (y ≡ false)
+both-false false false e = (refl, refl)
+both-false false true e = absurd (true≢false e)
+both-false true y e = absurd (true≢false e)
+
+pub has-none : (o : Option Foot) → has o ≡ false → o ≡ none
+has-none none e = refl
+has-none (some f) e = absurd (true≢false e)
+
 no-feet : (a b : Option Foot) → (has a || has b) ≡ false → (a ≡ none) × (b ≡ none)
-no-feet none none e = (refl, refl)
-no-feet none (some y) e = absurd (true≢false e)
-no-feet (some x) b e = absurd (true≢false e)
+no-feet a b e = let (x, y) = both-false (has a) (has b) e in (has-none a x, has-none b y)
 
 feet-no : (a b : Option Foot) → a ≡ none → b ≡ none → (has a || has b) ≡ false
 feet-no a b e f = rw (e, f)
@@ -59,9 +67,9 @@ second-same false a b size room h = rw (h refl)
 second-same true a b size room h = refl
 
 -- the four checks by the trees, passed
-fits-passed : (s t : Shard) (room : ℕ) → treeFault s t room ≡ 0 → Sound s → Sound t → JoinsIn s t room (lengthOf s + lengthOf t - 144)
+passed-joins : (s t : Shard) (room : ℕ) → treeFault s t room ≡ 0 → Sound s → Sound t → JoinsIn s t room (lengthOf s + lengthOf t - 144)
 unfolding joinFault
-fits-passed s t room e ks kt =
+passed-joins s t room e ks kt =
     let (a, e1) = passed (not (has (s .footer) || has (t .footer))) 30 _ (lit< tt) e in
     let (c, e2) = passed (firstsAgree (s .files) (t .files)) 9 _ (lit< tt) e1 in
     let (d, e3) = passed (leb (lengthOf s + lengthOf t - 144) limit) 6 _ (lit< tt) e2 in
@@ -74,9 +82,9 @@ fits-passed s t room e ks kt =
       fits = leb-true _ _ f;
     }
 
-passed-fits : (s t : Shard) (room size : ℕ) → JoinsIn s t room size → treeFault s t room ≡ 0
+joins-passed : (s t : Shard) (room size : ℕ) → JoinsIn s t room size → treeFault s t room ≡ 0
 unfolding joinFault
-passed-fits s t room n w =
+joins-passed s t room n w =
     let l : lengthOf (joinTree s t) + 144 ≡ lengthOf s + lengthOf t = length-both s t (w .joins .first) (w .joins .second) in
     rw (
       feet-no (s .footer) (t .footer) (w .joins .first) (w .joins .second),
@@ -97,12 +105,12 @@ module _ (tag : List ℕ) (b : Bytes tag) (first second : List ℕ) (s t : Shard
   pub written : (room n : ℕ) → joinOf tag first second room ≡ Wrote n → JoinsIn s t room n
   written room n e =
       let (z, l) = answer-wrote (treeFault s t room) (lengthOf s + lengthOf t - 144) n (sym (answer-is room) ∙ e) in
-      subst (JoinsIn s t room) l (fits-passed s t room z (o .spells .sound) (p .spells .sound))
+      subst (JoinsIn s t room) l (passed-joins s t room z (o .spells .sound) (p .spells .sound))
 
   pub writes : (room n : ℕ) → JoinsIn s t room n → joinOf tag first second room ≡ Wrote n
   writes room n w =
       let l : lengthOf s + lengthOf t - 144 ≡ n = omega (arith, w .long, length-both s t (w .joins .first) (w .joins .second)) in
-      answer-is room ∙ rw (passed-fits s t room n w, l)
+      answer-is room ∙ rw (joins-passed s t room n w, l)
 
   -- what is written spells the tree of both
   pub spells-both : Joins s t → Spells tag (joinTree s t) (joinedBytes tag first second)

@@ -11,9 +11,10 @@ use Rattle.words.proofs.Records.{length-words}
 use Rattle.layout.specs.Layout.{Shard, joined, fileRows, xorbRows, spellRows, xorbOffset, lengthOf, footerSize, bytesOf}
 use Rattle.layout.proofs.ShardForth.{length-files, length-of}
 use Rattle.layout.proofs.Theorem.{length-rows}
+use Rattle.layout.proofs.Lists.{joined-append, spell-append}
 use Rattle.join.specs.Join.{part, joinedAt, joinedBytes}
 use Rattle.join.specs.Claims.{joinTree}
-use Rattle.join.proofs.Spelled.{Spelling, headBytes, fileBytes, endBytes, xorbBytes, inOrder, bytes-are, joined-append, spell-append}
+use Rattle.join.proofs.Spelled.{Spelling, headBytes, fileBytes, endBytes, xorbBytes, inOrder, bytes-are}
 
 -- ## Cut out of the bytes
 

@@ -1,6 +1,6 @@
 -- What is known of the bytes of a sound shard: where its sections stand, and that reading comes to its xorb offset, because its rows are good ones.
 -- Assumes nothing.
-use mathlib.Core.Path.{_≡_, refl, sym, ap, _∙_}
+use mathlib.Core.Path.{_≡_, sym, ap, _∙_}
 use mathlib.Core.Option.{Option, none}
 use mathlib.Core.List.{List, [], _∷_, _++_, append-assoc, append-nil}
 use Prim.Native.Nat.{ℕ, zero, suc, _/_}
@@ -16,6 +16,7 @@ use Rattle.layout.specs.Claim.{meaningOf, Spells}
 use Rattle.layout.specs.Scan.{foundIn, IsAccepted}
 use Rattle.layout.proofs.ShardForth.{length-files, length-of}
 use Rattle.layout.proofs.Last.{offset-is}
+use Rattle.layout.proofs.Lists.{spell-append}
 use Rattle.layout.proofs.Theorem.{layout}
 use Rattle.reader.proofs.Reached.{bytes-append}
 use Rattle.join.specs.Join.{Parted, offsetIn}
@@ -51,14 +52,6 @@ parted tag bytes s o = record {
 }
 
 -- ## Its sections
-
-pub spell-append : (xs ys : List Row) → spellRows (xs ++ ys) ≡ spellRows xs ++ spellRows ys
-spell-append [] ys = refl
-spell-append (x ∷ xs) ys = ap (λ (l : List ℕ). spellWords (x .words) ++ l) (spell-append xs ys) ∙ sym (append-assoc (spellWords (x .words)) (spellRows xs) (spellRows ys))
-
-pub joined-append : {A : Type 0} {B : Type 0} (f : A → List B) (xs ys : List A) → joined f (xs ++ ys) ≡ joined f xs ++ joined f ys
-joined-append f [] ys = refl
-joined-append f (x ∷ xs) ys = ap (λ l. f x ++ l) (joined-append f xs ys) ∙ sym (append-assoc (f x) (joined f xs) (joined f ys))
 
 -- the 48 bytes of a header without footer, those of the files, of a bookend, and of the xorbs
 abbrev pub headBytes : List ℕ → List ℕ

@@ -8,10 +8,10 @@ use native.Mathlib.Omega.{arith}
 use lib.ListN.{length}
 use Rattle.layout.specs.Layout.{FileBlock, XorbBlock, Foot, Shard, Sound, SoundFile, SoundXorb, joined, fileRows, xorbRows, lengthOf}
 use Rattle.layout.proofs.ShardForth.{length-of}
+use Rattle.layout.proofs.Lists.{each-first, each-second, joined-append}
 use Rattle.join.specs.Claims.{joinTree}
 use Rattle.join.specs.Groups.{treeOf}
-use Rattle.join.proofs.Spelled.{joined-append}
-use Rattle.join.proofs.Agreement.{each-first, each-second, agree-first, agree-second}
+use Rattle.join.proofs.Agreement.{agree-first, agree-second}
 use Rattle.join.proofs.Sections.{length-both}
 
 shard-same : {f g : List FileBlock} {x y : List XorbBlock} {o p : Option Foot} → f ≡ g → x ≡ y → o ≡ p → _≡_ {A = Shard} (record { files = f; xorbs = x; footer = o }) (record { files = g; xorbs = y; footer = p })

@@ -5,6 +5,7 @@ use Prim.Native.Nat.{ℕ}
 use Rattle.rules.specs.declared.Kind.{Kind}
 use Rattle.rules.specs.declared.Kind.the-variants as kind
 use Rattle.layout.specs.Layout.{FileBlock, XorbBlock, Chunk, Row, Each, joined, members, listed, segmentRow, verificationRow, metadataRow, fileRows, chunkRows, xorbRows}
+use Rattle.layout.proofs.Lists.{each-append}
 
 -- what follows a file head
 abbrev pub entryRows : FileBlock → List Row
@@ -15,8 +16,7 @@ module _ (P : Kind → Type 0) where
   Kinds rs = Each (λ r. P (r .kind)) rs
 
   pub kinds-then : (xs ys : List Row) → Kinds xs → Kinds ys → Kinds (xs ++ ys)
-  kinds-then [] ys hx hy = hy
-  kinds-then (x ∷ xs) ys (h, hx) hy = (h, kinds-then xs ys hx hy)
+  kinds-then xs ys hx hy = each-append (λ (r : Row). P (r .kind)) xs ys hx hy
 
   kinds-map : {A : Type 0} (f : A → Row) (xs : List A) → ((x : A) → P (f x .kind)) → Kinds (map f xs)
   kinds-map f [] h = tt

@@ -19,4 +19,5 @@ pub mod Theorem
 pub mod Reach
 pub mod States
 pub mod Last
+pub mod Lists
 pub mod BlockKinds
