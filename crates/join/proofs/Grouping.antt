@@ -56,37 +56,7 @@ module _ (tag : List ℕ) (n32 : length tag ≡ 32) (b : Bytes tag) where
   unfolding comesTo
   two-come g h buffer bytes e = both-there (comesTo tag g) (comesTo tag h) (λ first second. resultOf tag first second buffer) bytes e
 
-  -- ## The appended trees
-
-  one-spelled : (bytes result : List ℕ) (ts : List Shard) → EachSpelled tag ts (bytes ∷ []) → comesTo tag (shard bytes) ≡ some result → Spells tag (treeOf ts) result
-  unfolding comesTo
-  one-spelled bytes result [] h e = absurd h
-  one-spelled bytes result (t ∷ []) (x, et, h) e =
-      let r : bytes ≡ result = cc in
-      subst (λ (u : Shard). Spells tag u result) (sym (tree-one t et)) (subst (Spells tag t) r x)
-  one-spelled bytes result (t ∷ (u ∷ ts)) (x, et, h) e = absurd h
-
-  appended : (g : Group) (ts : List Shard) → EachSpelled tag ts (shardsOf g) → (bytes : List ℕ) → comesTo tag g ≡ some bytes → Spells tag (treeOf ts) bytes
-  appended (shard x) ts h bytes e = one-spelled x bytes ts h e
-  appended (both g h buffer) ts k bytes e =
-      let o : Split tag (shardsOf g) (shardsOf h) ts = split tag (shardsOf g) (shardsOf h) ts k in
-      let (first, second, e1, e2, e3) = two-come g h buffer bytes e in
-      let p : Spelling tag first (treeOf (o .front)) = spelling tag n32 b first (treeOf (o .front)) (appended g (o .front) (o .of-front) first e1) in
-      let q : Spelling tag second (treeOf (o .back)) = spelling tag n32 b second (treeOf (o .back)) (appended h (o .back) (o .of-back) second e2) in
-      let (f, r) = result-told tag n32 b first second buffer bytes (treeOf (o .front)) (treeOf (o .back)) p q e3 in
-      subst (λ (u : Shard). Spells tag u bytes) (sym (ap treeOf (o .same) ∙ tree-both (o .front) (o .back))) (r .spells)
-
-  -- ## It comes to them
-
-  one-comes : (bytes : List ℕ) (ts : List Shard) → EachSpelled tag ts (bytes ∷ []) → comesTo tag (shard bytes) ≡ some (bytesOf tag (treeOf ts))
-  unfolding comesTo
-  one-comes bytes [] h = absurd h
-  one-comes bytes (t ∷ []) (x, et, h) = ap some (sym (x .spelled) ∙ ap (bytesOf tag) (sym (tree-one t et)))
-  one-comes bytes (t ∷ (u ∷ ts)) (x, et, h) = absurd h
-
-  two-come-to : (g h : Group) (buffer first second bytes : List ℕ) → comesTo tag g ≡ some first → comesTo tag h ≡ some second → resultOf tag first second buffer ≡ some bytes → comesTo tag (both g h buffer) ≡ some bytes
-  unfolding comesTo
-  two-come-to g h buffer first second bytes e1 e2 e3 = rw (e1, e2) e3
+  -- ## Its length
 
   one-long : (bytes : List ℕ) (ts : List Shard) → EachSpelled tag ts (bytes ∷ []) → length bytes ≡ lengthOf (treeOf ts)
   one-long bytes [] h = absurd h
@@ -99,6 +69,42 @@ module _ (tag : List ℕ) (n32 : length tag ≡ 32) (b : Bytes tag) where
       let o : Split tag (shardsOf g) (shardsOf h) ts = split tag (shardsOf g) (shardsOf h) ts k in
       let l : lengthOf (joinTree (treeOf (o .front)) (treeOf (o .back))) + 144 ≡ lengthOf (treeOf (o .front)) + lengthOf (treeOf (o .back)) = length-both (treeOf (o .front)) (treeOf (o .back)) refl refl in
       omega (arith, length-is g (o .front) (o .of-front), length-is h (o .back) (o .of-back), ap lengthOf (ap treeOf (o .same) ∙ tree-both (o .front) (o .back)))
+
+  -- ## The appended trees
+
+  one-spelled : (bytes result : List ℕ) (ts : List Shard) → EachSpelled tag ts (bytes ∷ []) → comesTo tag (shard bytes) ≡ some result → Spells tag (treeOf ts) result
+  unfolding comesTo
+  one-spelled bytes result [] h e = absurd h
+  one-spelled bytes result (t ∷ []) (x, et, h) e =
+      let r : bytes ≡ result = cc in
+      subst (λ (u : Shard). Spells tag u result) (sym (tree-one t et)) (subst (Spells tag t) r x)
+  one-spelled bytes result (t ∷ (u ∷ ts)) (x, et, h) e = absurd h
+
+  -- what a group comes to is spelled by them, and there was room
+  comes : (g : Group) (ts : List Shard) → EachSpelled tag ts (shardsOf g) → (bytes : List ℕ) → comesTo tag g ≡ some bytes → Spells tag (treeOf ts) bytes × Roomy g
+  comes (shard x) ts h bytes e = (one-spelled x bytes ts h e, tt)
+  comes (both g h buffer) ts k bytes e =
+      let o : Split tag (shardsOf g) (shardsOf h) ts = split tag (shardsOf g) (shardsOf h) ts k in
+      let s : Shard = treeOf (o .front) in
+      let t : Shard = treeOf (o .back) in
+      let (first, second, e1, e2, e3) = two-come g h buffer bytes e in
+      let (x, rg) = comes g (o .front) (o .of-front) first e1 in
+      let (y, rh) = comes h (o .back) (o .of-back) second e2 in
+      let (j, l, r) = result-told tag n32 b first second buffer bytes s t (spelling tag n32 b first s x) (spelling tag n32 b second t y) e3 in
+      let fits : lengthIn g + lengthIn h - 144 ≤ length buffer = omega (arith, l, length-is g (o .front) (o .of-front), length-is h (o .back) (o .of-back), length-both s t refl refl) in
+      (subst (λ (u : Shard). Spells tag u bytes) (sym (ap treeOf (o .same) ∙ tree-both (o .front) (o .back))) (r .spells), (rg, rh, fits))
+
+  -- ## It comes to them
+
+  one-comes : (bytes : List ℕ) (ts : List Shard) → EachSpelled tag ts (bytes ∷ []) → comesTo tag (shard bytes) ≡ some (bytesOf tag (treeOf ts))
+  unfolding comesTo
+  one-comes bytes [] h = absurd h
+  one-comes bytes (t ∷ []) (x, et, h) = ap some (sym (x .spelled) ∙ ap (bytesOf tag) (sym (tree-one t et)))
+  one-comes bytes (t ∷ (u ∷ ts)) (x, et, h) = absurd h
+
+  two-come-to : (g h : Group) (buffer first second bytes : List ℕ) → comesTo tag g ≡ some first → comesTo tag h ≡ some second → resultOf tag first second buffer ≡ some bytes → comesTo tag (both g h buffer) ≡ some bytes
+  unfolding comesTo
+  two-come-to g h buffer first second bytes e1 e2 e3 = rw (e1, e2) e3
 
   whole : (g : Group) (ts : List Shard) → EachSpelled tag ts (shardsOf g) → Sound (treeOf ts) → Roomy g → comesTo tag g ≡ some (bytesOf tag (treeOf ts))
   whole (shard bytes) ts k ok room = one-comes bytes ts k
@@ -157,7 +163,7 @@ module _ (tag : List ℕ) (n32 : length tag ≡ 32) (b : Bytes tag) where
   regrouped (shard x) (both g h buffer) ys same room bytes e = absurd (omega (arith, ap length same ∙ length-append (shardsOf g) (shardsOf h), some-shards g, some-shards h))
   regrouped (both f g buffer) h ys same room bytes e =
       let (ts, k) = trees-of (both f g buffer) ys tt bytes e in
-      let x : Spells tag (treeOf ts) bytes = appended (both f g buffer) ts k bytes e in
+      let (x, there) = comes (both f g buffer) ts k bytes e in
       whole h ts (subst (EachSpelled tag ts) same k) (x .sound) room ∙ ap some (x .spelled)
 
   -- ## The 144-byte shard
@@ -193,8 +199,7 @@ module _ (tag : List ℕ) (n32 : length tag ≡ 32) (b : Bytes tag) where
     smallest = (bytesOf tag smallest, bytes-spelled tag smallest refl, joinable-of tag (bytesOf tag smallest) smallest smallest-spelling refl, smallest-spelling .size ∙ length-smallest);
     before = before;
     behind = behind;
-    appended = appended;
-    whole = whole;
+    exactly = λ g ts k bytes. (comes g ts k bytes, λ (x, room). whole g ts k (x .sound) room ∙ ap some (x .spelled));
     regrouped = regrouped;
     right = λ a c d out₁ out₂ out₃ out₄ bytes ya yc yd l₃ l₄ e.
         regrouped (both (both (shard a) (shard c) out₁) (shard d) out₂) (both (shard a) (both (shard c) (shard d) out₃) out₄) (ya, (yc, (yd, tt))) refl (tt, (tt, tt, l₃), l₄) bytes e;

@@ -98,11 +98,13 @@ module _ (tag : List ℕ) (n32 : length tag ≡ 32) (b : Bytes tag) where
   pub result-joinable : (first second buffer result : List ℕ) → resultOf tag first second buffer ≡ some result → Joinable tag first × Joinable tag second
   result-joinable first second buffer result e = let (n, w) = was-written first second buffer result e in both-joinable tag first second (length buffer) n w
 
-  -- whose trees can be joined, and what is there is spelled by the tree of both
-  pub result-told : (first second buffer result : List ℕ) (s t : Shard) → Spelling tag first s → Spelling tag second t → resultOf tag first second buffer ≡ some result → Joins s t × Spelling tag result (joinTree s t)
+  -- whose trees can be joined and have room, and what is there is spelled by the tree of both
+  pub result-told : (first second buffer result : List ℕ) (s t : Shard) → Spelling tag first s → Spelling tag second t → resultOf tag first second buffer ≡ some result
+      → Joins s t × (lengthOf (joinTree s t) ≤ length buffer) × Spelling tag result (joinTree s t)
   result-told first second buffer result s t o p e =
       let (n, w) = was-written first second buffer result e in
       let k : JoinsIn s t (length buffer) n = written tag b first second s t o p (length buffer) n w in
-      let h : some result ≡ some (joinedBytes tag first second) = sym e ∙ result-there first second buffer s t o p (k .joins) (omega (arith, k .long, k .fits)) in
+      let l : lengthOf (joinTree s t) ≤ length buffer = omega (arith, k .long, k .fits) in
+      let h : some result ≡ some (joinedBytes tag first second) = sym e ∙ result-there first second buffer s t o p (k .joins) l in
       let r : result ≡ joinedBytes tag first second = cc in
-      (k .joins, subst (λ (l : List ℕ). Spelling tag l (joinTree s t)) (sym r) (result-spelling first second s t o p (k .joins)))
+      (k .joins, l, subst (λ (bytes : List ℕ). Spelling tag bytes (joinTree s t)) (sym r) (result-spelling first second s t o p (k .joins)))

@@ -1,6 +1,7 @@
 -- JOINING SEVERAL SHARDS, call after call, and the claims about it, proved in proofs/Grouping for every tag of 32 bytes: the 144-byte shard changes
 -- nothing, and a day's shards give the same bytes in whatever grouping they are joined, those of the appended trees.
 use mathlib.Core.Path.{_≡_}
+use mathlib.Core.Logic.{_↔_}
 use mathlib.Core.Option.{Option, none, some}
 use mathlib.Core.List.{List, [], _∷_, _++_}
 use Prim.Native.Nat.{ℕ, _+_, _-_, _≤_}
@@ -62,9 +63,8 @@ pub record GroupClaim (tag : List ℕ) : Type 0 where
   pub smallest : (bytes : List ℕ) × Bytes bytes × Joinable tag bytes × (length bytes ≡ 144)
   pub before : (small other buffer : List ℕ) → Bytes small → Bytes other → Joinable tag small → length small ≡ 144 → Joinable tag other → length other ≤ length buffer → resultOf tag small other buffer ≡ some other
   pub behind : (small other buffer : List ℕ) → Bytes small → Bytes other → Joinable tag small → length small ≡ 144 → Joinable tag other → length other ≤ length buffer → resultOf tag other small buffer ≡ some other
-  -- what a group comes to is spelled by the appended trees; and it comes to it where these are sound and room enough is lent
-  pub appended : (g : Group) (ts : List Shard) → EachSpelled tag ts (shardsOf g) → (bytes : List ℕ) → comesTo tag g ≡ some bytes → Spells tag (treeOf ts) bytes
-  pub whole : (g : Group) (ts : List Shard) → EachSpelled tag ts (shardsOf g) → Sound (treeOf ts) → Roomy g → comesTo tag g ≡ some (bytesOf tag (treeOf ts))
+  -- a group comes to some bytes exactly if the appended trees are sound and spell them, and room enough is lent
+  pub exactly : (g : Group) (ts : List Shard) → EachSpelled tag ts (shardsOf g) → (bytes : List ℕ) → comesTo tag g ≡ some bytes ↔ (Spells tag (treeOf ts) bytes × Roomy g)
   -- so two groups of the same shards come to the same: where one is accepted, so is the other with room enough lent at each step
   pub regrouped : (g h : Group) → Each Bytes (shardsOf g) → shardsOf g ≡ shardsOf h → Roomy h → (bytes : List ℕ) → comesTo tag g ≡ some bytes → comesTo tag h ≡ some bytes
   -- of three, whichever pair goes first
