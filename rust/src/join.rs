@@ -2,9 +2,13 @@
 
 use crate::error::refusal;
 use crate::{ffi, Offer, Refusal, Writer};
+use std::borrow::Cow;
 
 /// The length of a shard with nothing in it: a header and two section ends, which a joined shard has once.
 const SMALLEST: usize = 144;
+
+/// No shard is longer. A longer result is refused with 6, however much room is lent.
+const LIMIT: usize = 16_777_216;
 
 /// Joins two shards under one tag into a lent buffer, and answers the length of the joined one: the sum less 144. It stands at the
 /// start of the buffer; no byte behind it changes.
@@ -52,14 +56,15 @@ pub fn join(tag: &[u8], shards: &[&[u8]]) -> Result<Vec<u8>, Refusal> {
         [only] => (only, &[&empty[..]][..]),
         [first, ref rest @ ..] => (first, rest),
     };
-    let mut whole = first.to_vec();
+    let mut whole = Cow::Borrowed(first);
     for shard in rest {
-        let mut buffer = vec![0; (whole.len() + shard.len()).saturating_sub(SMALLEST)];
+        let sum = whole.len() + shard.len();
+        let mut buffer = vec![0; sum.saturating_sub(SMALLEST).min(LIMIT)];
         let size = join_into(tag, &whole, shard, &mut buffer)?;
         buffer.truncate(size);
-        whole = buffer;
+        whole = Cow::Owned(buffer);
     }
-    Ok(whole)
+    Ok(whole.into_owned())
 }
 
 /// The shard with nothing in it.
