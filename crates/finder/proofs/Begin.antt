@@ -16,11 +16,9 @@ use Rattle.rules.specs.declared.Summary.{Summary}
 use Rattle.rules.specs.declared.Verdict.{Verdict}
 use Rattle.rules.specs.declared.Verdict.the-variants as verdict
 use Rattle.layout.specs.Layout.{Foot, Shard, Row, listed, footRecord, placed, rowsOf, fileSection, xorbSection, xorbOffset, footerOffset, recordsOf}
-use Rattle.layout.specs.Claim.{Spells}
 use Rattle.layout.specs.Reach.{lastPlace}
 use Rattle.layout.specs.Scan.{Found, foundIn, IsAccepted}
-use Rattle.layout.proofs.Last.{tag-size, offset-is}
-use Rattle.layout.proofs.Theorem.{layout}
+use Rattle.layout.proofs.Last.{tag-size, Spelling, tree-of}
 use Rattle.reader.proofs.Whole.{verdict-said}
 use Rattle.finder.specs.Find.{chunkIn, chunkBy, chunkFound, fileIn, fileBy, fileFound}
 use Rattle.finder.specs.declared.FoundChunk.the-variants as chunk
@@ -35,8 +33,7 @@ use Rattle.finder.proofs.FileWalk.{NoFile, file-past, FilesLeft}
 -- the tree that they spell, and what is found in it
 pub record Accepted (tag bytes : List ℕ) : Type 0 where
   pub shard : Shard
-  pub size : length tag ≡ 32
-  pub spells : Spells tag shard bytes
+  pub spelling : Spelling tag bytes shard
   pub rows : Stand bytes 0 (rowsOf tag shard)
   pub short : length bytes ≤ limit
   pub chunks : (hash : List ℕ) → chunkFound tag bytes hash ≡ chunkIn hash 0 0 (recordsOf tag shard)
@@ -45,18 +42,14 @@ pub record Accepted (tag bytes : List ℕ) : Type 0 where
 pub accepted : (tag bytes : List ℕ) → Bytes tag → Bytes bytes → IsAccepted (foundIn tag bytes .verdict) → Accepted tag bytes
 unfolding chunkFound fileFound
 accepted tag bytes t b a =
-    let n : length tag ≡ 32 = tag-size tag bytes a in
-    let claim = layout tag n t in
-    let (s, x) = claim .accepted bytes b .0 a in
-    let e = claim .found bytes s x in
+    let (s, o) = tree-of tag (tag-size tag bytes a) t bytes b a in
     record {
       shard = s;
-      size = n;
-      spells = x;
-      rows = stand-shard tag bytes s t x;
-      short = omega (arith, claim .long s, ap length (x .spelled), x .sound .short);
-      chunks = λ hash. ap (λ (f : Found). chunkBy (f .verdict) (chunkIn hash 0 0 (f .records))) e;
-      files = λ hash. ap (λ (f : Found). fileBy (f .verdict) (fileIn hash 0 (f .records))) e;
+      spelling = o;
+      rows = stand-shard tag bytes s t (o .spells);
+      short = omega (arith, o .size, o .spells .sound .short);
+      chunks = λ hash. ap (λ (f : Found). chunkBy (f .verdict) (chunkIn hash 0 0 (f .records))) (o .found);
+      files = λ hash. ap (λ (f : Found). fileBy (f .verdict) (fileIn hash 0 (f .records))) (o .found);
     }
 
 -- ## The walks
@@ -76,13 +69,13 @@ unfolding recordsOf rowsOf xorbOffset chunkIn
 chunks-begin tag bytes hash t a =
     let s : Shard = a .shard in
     let foot : List Record = map (footRecord (xorbOffset s) (footerOffset s)) (listed (s .footer)) in
-    subst (λ (p : ℕ). ChunksLeft bytes hash (chunkFound tag bytes hash) p 0 0 0) (sym (offset-is tag bytes s (a .size) t (a .spells))) (record {
+    subst (λ (p : ℕ). ChunksLeft bytes hash (chunkFound tag bytes hash) p 0 0 0) (sym (a .spelling .offset)) (record {
       chunks = [];
       start = 0;
       xorbs = s .xorbs;
       behind = foot;
       count = refl;
-      sound = a .spells .sound .xorbs;
+      sound = a .spelling .spells .sound .xorbs;
       stand = subst (Stand bytes (xorbOffset s)) (xorb-section s) (stand-behind bytes 48 (fileSection s) (xorbSection s) (a .rows .2));
       says = sym (a .chunks hash
           ∙ ap (chunkIn hash 0 0) (placed-then 48 (fileSection s) (xorbSection s) foot)
@@ -102,7 +95,7 @@ files-begin tag bytes hash a =
       files = s .files;
       later = xorbSection s;
       behind = foot;
-      sound = a .spells .sound .files;
+      sound = a .spelling .spells .sound .files;
       stand = subst (Stand bytes 48) (file-section s (xorbSection s)) (a .rows .2);
       says = sym (a .files hash ∙ ap (λ (l : List Row). fileIn hash 0 (placed 48 l ++ foot)) (file-section s (xorbSection s)));
       none = λ p n. file-past hash n p (xorbSection s) foot (xorb-section-kinds NoFile s (λ g m r l. refl) (λ g m r l. refl) (λ g m r l. refl)) ∙ no-file-foot hash (xorbOffset s) (footerOffset s) n (s .footer);

@@ -20,9 +20,10 @@ use Rattle.layout.proofs.Flags.{flags-31, bit-same, same-bit}
 use Rattle.layout.proofs.Lists.{each-append, each-first, each-second}
 use Rattle.layout.proofs.Rows.{Goes, stepped}
 use Rattle.layout.proofs.ShardForth.{shard-go}
+use Rattle.layout.proofs.Last.{Spelling}
 use Rattle.join.specs.Join.{firstFlags}
 use Rattle.join.specs.Claims.{firstsAgree}
-use Rattle.join.proofs.Spelled.{Spelling, headBytes, fileBytes, endBytes, xorbBytes, inOrder, bytes-are}
+use Rattle.join.proofs.Spelled.{headBytes, fileBytes, endBytes, xorbBytes, inOrder, bytes-are}
 
 -- ## Joined
 

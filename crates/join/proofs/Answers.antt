@@ -1,16 +1,15 @@
 -- What the code answers and writes is what is to be answered and written: by the verdicts at the two last places, and then by the four checks, because a
 -- verdict is the last place's and an accepted shard is parted at its xorb offset. Assumes nothing.
 use mathlib.Core.Path.{_≡_, refl, sym, ap, _∙_, subst}
-use mathlib.Core.Bool.{Bool, not}
+use mathlib.Core.Bool.{Bool}
 use mathlib.Core.List.{List, _++_}
 use Prim.Native.Nat.{ℕ, _+_, _≤_}
 use native.Mathlib.Omega.{arith}
-use lib.Dec.{leb, lit<}
 use lib.ListN.{length, drop}
-use borrow.Author.Tests.{ne-eqb, leb-true}
+use borrow.Author.Tests.{ne-eqb}
 use Rattle.words.specs.Le.{Bytes, puts}
 use Rattle.words.proofs.Stores.{puts-eq}
-use Rattle.rules.specs.Rules.{limit, same31, start}
+use Rattle.rules.specs.Rules.{same31, start}
 use Rattle.rules.specs.Verdicts.{refusalAt, summaryOf, verdictBy, verdictAt}
 use Rattle.rules.specs.declared.Due.{Due}
 use Rattle.rules.specs.declared.Due.the-variants as due
@@ -22,26 +21,16 @@ use Rattle.rules.specs.declared.Verdict.{Verdict}
 use Rattle.rules.specs.declared.Verdict.the-variants as verdict
 use Rattle.layout.specs.Reach.{lastPlace}
 use Rattle.layout.specs.Scan.{foundIn, IsAccepted}
-use Rattle.layout.proofs.Checks.{passed}
-use Rattle.layout.proofs.Last.{tag-size}
+use Rattle.layout.proofs.Last.{tag-size, tree-of}
 use Rattle.reader.proofs.Whole.{verdict-said}
-use Rattle.join.specs.Join.{Parted, joinedAt, joinedBytes, joinedLength, firstFlags, joinFault, faultFor, answerFor, joinOf, bufferBy, bufferOf}
+use Rattle.join.specs.Join.{Parted, joinedAt, joinedBytes, joinedLength, firstFlags, faultFor, answerFor, joinOf, bufferBy, bufferOf}
 use Rattle.join.specs.declared.Joined.{Joined}
 use Rattle.join.specs.declared.Joined.the-variants.{Wrote, Refused}
+use Rattle.join.proofs.Checks.{all-passed}
 use Rattle.join.proofs.Copies.{length-joined}
-use Rattle.join.proofs.Spelled.{tree-of, parted}
+use Rattle.join.proofs.Spelled.{parted}
 
 -- ## Two accepted shards
-
--- where no check fails, there is room
-room-by : (footer agree : Bool) (size room : ℕ) → joinFault footer agree size room ≡ 0 → size ≤ room
-unfolding joinFault
-room-by footer agree size room e =
-    let (a, e1) = passed (not footer) 30 _ (lit< tt) e in
-    let (b, e2) = passed agree 9 _ (lit< tt) e1 in
-    let (c, e3) = passed (leb size limit) 6 _ (lit< tt) e2 in
-    let (d, e4) = passed (leb size room) 15 _ (lit< tt) e3 in
-    leb-true _ _ d
 
 module _ (s t : Summary) (first second : List ℕ) (x y : ℕ) (buffer : List ℕ) {number f g : ℕ} {same : Bool}
     (ef : f ≡ firstFlags first) (eg : g ≡ firstFlags second) (es : same ≡ same31 f g) (e : number ≡ faultFor s t same (joinedLength first second) (length buffer)) where
@@ -49,7 +38,7 @@ module _ (s t : Summary) (first second : List ℕ) (x y : ℕ) (buffer : List �
   number-is = rw (es, ef, eg) at e
 
   pub room-there : number ≡ 0 → joinedLength first second ≤ length buffer
-  room-there z = room-by _ _ _ _ (sym number-is ∙ z)
+  room-there z = all-passed _ _ _ _ (sym number-is ∙ z) .fits
 
   pub wrote : Parted first x → Parted second y → (out : List ℕ) → number ≡ 0 → out ≡ puts buffer 0 (joinedAt first x second y)
       → (Wrote (joinedLength first second) ≡ answerFor s t first second (length buffer)) × (out ≡ bufferBy (answerFor s t first second (length buffer)) (joinedAt first x second y) buffer)

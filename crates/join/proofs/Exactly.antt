@@ -1,45 +1,28 @@
 -- Bytes are written exactly if the trees can be joined and there is room, because the four checks are just that. Assumes nothing.
 use mathlib.Core.Path.{_≡_, refl, sym, _∙_, subst}
-use mathlib.Core.Bool.{Bool, true, false, _||_, not, true≢false}
+use mathlib.Core.Bool.{true, false, _||_, true≢false}
 use mathlib.Core.Option.{Option, none, some}
 use mathlib.Core.List.{List}
 use Prim.Native.Nat.{ℕ, _+_, _-_, _≤_}
 use native.Mathlib.Omega.{arith}
-use lib.Dec.{eqb, leb, lit<}
 use lib.ListN.{length}
-use borrow.Author.Tests.{eqb-true, le-leb, leb-true, not-true}
-use Rattle.words.specs.Checks.{pick}
 use Rattle.words.specs.Le.{Bytes}
-use Rattle.rules.specs.Rules.{limit, same31, start}
-use Rattle.rules.specs.Verdicts.{refusalAt}
+use Rattle.rules.specs.Rules.{limit, same31}
 use Rattle.rules.specs.declared.Summary.{Summary}
 use Rattle.layout.specs.Layout.{Foot, Shard, has, lengthOf, totalsOf, Sound, SoundFile, SoundXorb}
 use Rattle.layout.specs.Claim.{Spells}
-use Rattle.layout.proofs.Checks.{passed}
 use Rattle.layout.proofs.Lists.{each-append}
+use Rattle.layout.proofs.Last.{Spelling}
 use Rattle.join.specs.Join.{firstFlags, joinedLength, joinFault, faultFor, answerBy, answerFor, joinOf, joinedBytes}
 use Rattle.join.specs.Claims.{joinTree, Joins, firstsAgree, treeFault, JoinsIn}
-use Rattle.join.specs.declared.Joined.the-variants.{Wrote, Refused}
-use Rattle.join.proofs.Spelled.{Spelling}
+use Rattle.join.specs.declared.Joined.the-variants.{Wrote}
+use Rattle.join.proofs.Checks.{all-passed, no-fault, second-same, answer-wrote, both-false}
 use Rattle.join.proofs.Sections.{bytes-joined, length-both}
 use Rattle.join.proofs.Agreement.{SameFirst, agree-both, agree-firsts, test-firsts, firsts-test, test-agrees}
 
 -- what is found of a tree
 abbrev pub summaryFor : Shard → Summary
 summaryFor s = record { length = lengthOf s; totals = totalsOf s; footer = has (s .footer) }
-
--- a number of bytes is answered only where no check has failed
-pub answer-wrote : (number size n : ℕ) → answerBy number size ≡ Wrote n → (number ≡ 0) × (size ≡ n)
-answer-wrote number size n e = go (eqb number 0) refl e
-  where
-    go : (t : Bool) → eqb number 0 ≡ t → pick t (Wrote size) (Refused (refusalAt number start)) ≡ Wrote n → (number ≡ 0) × (size ≡ n)
-    go true h e = (eqb-true _ _ h, cc)
-    go false h e = let z : _≡_ {A = ℕ} 0 1 = cc in absurd (omega arith)
-
-pub both-false : (x y : Bool) → (x || y) ≡ false → (x ≡ false) × (y ≡ false)
-both-false false false e = (refl, refl)
-both-false false true e = absurd (true≢false e)
-both-false true y e = absurd (true≢false e)
 
 pub has-none : (o : Option Foot) → has o ≡ false → o ≡ none
 has-none none e = refl
@@ -60,38 +43,27 @@ sound-both s t a b h l = record {
   short = l;
 }
 
--- the second check counts only where the first is passed
-second-same : (footer a b : Bool) (size room : ℕ) → (footer ≡ false → a ≡ b) → joinFault footer a size room ≡ joinFault footer b size room
-unfolding joinFault
-second-same false a b size room h = rw (h refl)
-second-same true a b size room h = refl
-
--- the four checks by the trees, passed
+-- the four checks by the trees: passed, both can be joined and there is room; and the other way round
 passed-joins : (s t : Shard) (room : ℕ) → treeFault s t room ≡ 0 → Sound s → Sound t → JoinsIn s t room (lengthOf s + lengthOf t - 144)
-unfolding joinFault
 passed-joins s t room e ks kt =
-    let (a, e1) = passed (not (has (s .footer) || has (t .footer))) 30 _ (lit< tt) e in
-    let (c, e2) = passed (firstsAgree (s .files) (t .files)) 9 _ (lit< tt) e1 in
-    let (d, e3) = passed (leb (lengthOf s + lengthOf t - 144) limit) 6 _ (lit< tt) e2 in
-    let (f, e4) = passed (leb (lengthOf s + lengthOf t - 144) room) 15 _ (lit< tt) e3 in
-    let (es, et) = no-feet (s .footer) (t .footer) (not-true _ a) in
+    let p = all-passed _ _ _ _ e in
+    let (es, et) = no-feet (s .footer) (t .footer) (p .no-footer) in
     let l : lengthOf (joinTree s t) + 144 ≡ lengthOf s + lengthOf t = length-both s t es et in
     record {
-      joins = record { first = es; second = et; sound = sound-both s t ks kt (test-firsts (s .files) (t .files) c) (omega (arith, leb-true (lengthOf s + lengthOf t - 144) limit d)) };
+      joins = record { first = es; second = et; sound = sound-both s t ks kt (test-firsts (s .files) (t .files) (p .agrees)) (omega (arith, p .short)) };
       long = omega arith;
-      fits = leb-true _ _ f;
+      fits = p .fits;
     }
 
 joins-passed : (s t : Shard) (room size : ℕ) → JoinsIn s t room size → treeFault s t room ≡ 0
-unfolding joinFault
-joins-passed s t room n w =
+joins-passed s t room size w =
     let l : lengthOf (joinTree s t) + 144 ≡ lengthOf s + lengthOf t = length-both s t (w .joins .first) (w .joins .second) in
-    rw (
-      feet-no (s .footer) (t .footer) (w .joins .first) (w .joins .second),
-      firsts-test (s .files) (t .files) (agree-firsts (s .files) (t .files) (w .joins .sound .agree)),
-      le-leb (lengthOf s + lengthOf t - 144) limit (omega (arith, w .joins .sound .short)),
-      le-leb (lengthOf s + lengthOf t - 144) room (omega (arith, w .long, w .fits)),
-    )
+    no-fault _ _ _ _ (record {
+      no-footer = feet-no (s .footer) (t .footer) (w .joins .first) (w .joins .second);
+      agrees = firsts-test (s .files) (t .files) (agree-firsts (s .files) (t .files) (w .joins .sound .agree));
+      short = omega (arith, w .joins .sound .short);
+      fits = omega (arith, w .long, w .fits);
+    })
 
 module _ (tag : List ℕ) (b : Bytes tag) (first second : List ℕ) (s t : Shard) (o : Spelling tag first s) (p : Spelling tag second t) where
   fault-same : (size room : ℕ) → faultFor (summaryFor s) (summaryFor t) (same31 (firstFlags first) (firstFlags second)) size room ≡ joinFault (has (s .footer) || has (t .footer)) (firstsAgree (s .files) (t .files)) size room

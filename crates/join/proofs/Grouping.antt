@@ -10,10 +10,11 @@ use Rattle.words.specs.Le.{Bytes}
 use Rattle.layout.specs.Layout.{Shard, Each, Sound, lengthOf, bytesOf}
 use Rattle.layout.specs.Claim.{Spells}
 use Rattle.layout.proofs.Lists.{each-first, each-second}
+use Rattle.layout.proofs.Last.{Spelling, spelling}
 use Rattle.join.specs.Join.{joinedBytes}
 use Rattle.join.specs.Claims.{joinTree, resultOf, Joins, Joinable}
 use Rattle.join.specs.Groups.{Group, shard, both, shardsOf, withBoth, comesTo, lengthIn, Roomy, treeOf, EachSpelled, GroupClaim}
-use Rattle.join.proofs.Spelled.{Spelling, spelling, bytes-spelled}
+use Rattle.join.proofs.Spelled.{bytes-spelled}
 use Rattle.join.proofs.Sections.{length-both}
 use Rattle.join.proofs.Exactly.{spells-both}
 use Rattle.join.proofs.Results.{joinable-of, joinable-tree, result-there, result-joinable, result-told}

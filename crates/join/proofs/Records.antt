@@ -11,8 +11,8 @@ use Rattle.rules.specs.declared.Record.{Record}
 use Rattle.layout.specs.Layout.{Foot, Shard, Row, joined, listed, fileRows, xorbRows, bookend, fileSection, xorbSection, rowsOf, xorbOffset, footerOffset, footRecord, placed, recordsOf}
 use Rattle.layout.specs.Scan.{Found}
 use Rattle.layout.proofs.BlockKinds.{Kinds, file-kinds, xorb-kinds}
+use Rattle.layout.proofs.Last.{Spelling}
 use Rattle.join.specs.Claims.{ofFile, ofXorb, unplaced, ofKinds, recordsIn}
-use Rattle.join.proofs.Spelled.{Spelling}
 
 -- rows that were placed, positions aside
 rows-placed : (at : ℕ) (rs : List Row) → map unplaced (placed at rs) ≡ rs

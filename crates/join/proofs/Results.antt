@@ -1,14 +1,11 @@
 -- What a call leaves in the buffer, by the two trees, because its result is the joined bytes. Assumes nothing.
 use mathlib.Core.Path.{_≡_, refl, sym, ap, _∙_, subst}
-use mathlib.Core.Bool.{_||_, not}
 use mathlib.Core.Option.{none, some}
 use mathlib.Core.List.{List}
 use Prim.Native.Nat.{ℕ, _≤_}
 use native.Mathlib.Omega.{arith}
-use lib.Dec.{lit<}
 use lib.ListN.{length, drop}
 use lib.Seq.{take-at}
-use borrow.Author.Tests.{not-true}
 use Rattle.words.specs.Le.{Bytes}
 use Rattle.rules.specs.Rules.{same31}
 use Rattle.rules.specs.declared.Summary.{Summary}
@@ -16,13 +13,13 @@ use Rattle.rules.specs.declared.Verdict.{Verdict}
 use Rattle.rules.specs.declared.Verdict.the-variants as verdict
 use Rattle.layout.specs.Layout.{Shard, has, lengthOf}
 use Rattle.layout.specs.Scan.{Found, foundIn, IsAccepted}
-use Rattle.layout.proofs.Checks.{passed}
-use Rattle.join.specs.Join.{joinedBytes, joinedLength, firstFlags, joinFault, faultFor, ifAccepted, answerFor, joinOf, bufferOf}
+use Rattle.layout.proofs.Last.{Spelling, spelling, tree-of}
+use Rattle.join.specs.Join.{joinedBytes, joinedLength, firstFlags, faultFor, ifAccepted, answerFor, joinOf, bufferOf}
 use Rattle.join.specs.Claims.{joinTree, resultBy, resultOf, Joins, JoinsIn, Joinable}
 use Rattle.join.specs.declared.Joined.{Joined}
 use Rattle.join.specs.declared.Joined.the-variants.{Wrote, Refused}
-use Rattle.join.proofs.Spelled.{Spelling, spelling, tree-of}
-use Rattle.join.proofs.Exactly.{summaryFor, answer-wrote, both-false, has-none, written, writes, spells-both}
+use Rattle.join.proofs.Checks.{all-passed, answer-wrote, both-false}
+use Rattle.join.proofs.Exactly.{summaryFor, has-none, written, writes, spells-both}
 
 -- ## Accepted, and without footer
 
@@ -32,11 +29,10 @@ joinable-of tag bytes s o e = record { summary = summaryFor s; accepted = ap (λ
 -- something is written only of two such shards
 both-by : (tag first second : List ℕ) (room size : ℕ) (v w : Verdict) → foundIn tag first .verdict ≡ v → foundIn tag second .verdict ≡ w
     → ifAccepted v (λ s. ifAccepted w (λ t. answerFor s t first second room)) ≡ Wrote size → Joinable tag first × Joinable tag second
-unfolding answerFor joinFault
+unfolding answerFor
 both-by tag first second room size (verdict.Accepted s) (verdict.Accepted t) ev ew e =
     let (z, l) = answer-wrote (faultFor s t (same31 (firstFlags first) (firstFlags second)) (joinedLength first second) room) (joinedLength first second) size e in
-    let (a, later) = passed (not (s .footer || t .footer)) 30 _ (lit< tt) z in
-    let (es, et) = both-false (s .footer) (t .footer) (not-true _ a) in
+    let (es, et) = both-false (s .footer) (t .footer) (all-passed _ _ _ _ z .no-footer) in
     (record { summary = s; accepted = ev; footer = es }, record { summary = t; accepted = ew; footer = et })
 both-by tag first second room size (verdict.Accepted s) (verdict.Refused r) ev ew e = let z : _≡_ {A = ℕ} 0 1 = cc in absurd (omega arith)
 both-by tag first second room size (verdict.Refused r) w ev ew e = let z : _≡_ {A = ℕ} 0 1 = cc in absurd (omega arith)

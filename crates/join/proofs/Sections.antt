@@ -12,9 +12,10 @@ use Rattle.layout.specs.Layout.{Shard, joined, fileRows, xorbRows, spellRows, x
 use Rattle.layout.proofs.ShardForth.{length-files, length-of}
 use Rattle.layout.proofs.Theorem.{length-rows}
 use Rattle.layout.proofs.Lists.{joined-append, spell-append}
+use Rattle.layout.proofs.Last.{Spelling}
 use Rattle.join.specs.Join.{part, joinedAt, joinedBytes}
 use Rattle.join.specs.Claims.{joinTree}
-use Rattle.join.proofs.Spelled.{Spelling, headBytes, fileBytes, endBytes, xorbBytes, inOrder, bytes-are}
+use Rattle.join.proofs.Spelled.{headBytes, fileBytes, endBytes, xorbBytes, inOrder, bytes-are}
 
 -- ## Cut out of the bytes
 

@@ -1,46 +1,24 @@
--- What is known of the bytes of a sound shard: where its sections stand, and that reading comes to its xorb offset, because its rows are good ones.
+-- Where the xorb offset of a shard lies, and the bytes of one without footer, section by section, because its rows are spelled one after the other.
 -- Assumes nothing.
-use mathlib.Core.Path.{_≡_, sym, ap, _∙_}
+use mathlib.Core.Path.{_≡_, _∙_}
 use mathlib.Core.Option.{Option, none}
 use mathlib.Core.List.{List, [], _∷_, _++_, append-assoc, append-nil}
 use Prim.Native.Nat.{ℕ, zero, suc, _/_}
 use native.Mathlib.Omega.{arith}
-use lib.ListN.{length, getD}
+use lib.ListN.{getD}
 use Rattle.words.specs.Le.{Bytes, spell}
 use Rattle.words.specs.Record.{hashAt, spellHash, spellWords}
 use Rattle.words.specs.declared.Words.{Words}
 use Rattle.words.proofs.Numbers.{bytes-none}
 use Rattle.rules.specs.declared.Kind.the-variants as kind
-use Rattle.layout.specs.Layout.{Foot, Shard, Row, row, listed, joined, spellFoot, headerRow, fileRows, xorbRows, bookend, rowsOf, fileSection, xorbSection, spellRows, xorbOffset, footerOffset, lengthOf, bytesOf}
-use Rattle.layout.specs.Claim.{meaningOf, Spells}
-use Rattle.layout.specs.Scan.{foundIn, IsAccepted}
+use Rattle.layout.specs.Layout.{Foot, Shard, Row, row, listed, joined, spellFoot, headerRow, fileRows, xorbRows, bookend, rowsOf, fileSection, xorbSection, spellRows, xorbOffset, footerOffset, bytesOf}
 use Rattle.layout.proofs.ShardForth.{length-files, length-of}
-use Rattle.layout.proofs.Last.{offset-is}
+use Rattle.layout.proofs.Last.{Spelling}
 use Rattle.layout.proofs.Lists.{spell-append}
-use Rattle.layout.proofs.Theorem.{layout}
 use Rattle.reader.proofs.Reached.{bytes-append}
 use Rattle.join.specs.Join.{Parted, offsetIn}
 
--- ## The shard of accepted bytes
-
--- what is known of a shard from its bytes
-pub record Spelling (tag bytes : List ℕ) (s : Shard) : Type 0 where
-  pub spells : Spells tag s bytes
-  pub found : foundIn tag bytes ≡ meaningOf tag s
-  pub size : length bytes ≡ lengthOf s
-  pub offset : offsetIn tag bytes ≡ xorbOffset s
-
-module _ (tag : List ℕ) (n : length tag ≡ 32) (t : Bytes tag) where
-  pub spelling : (bytes : List ℕ) (s : Shard) → Spells tag s bytes → Spelling tag bytes s
-  spelling bytes s x = record {
-    spells = x;
-    found = layout tag n t .found bytes s x;
-    size = ap length (sym (x .spelled)) ∙ layout tag n t .long s;
-    offset = offset-is tag bytes s n t x;
-  }
-
-  pub tree-of : (bytes : List ℕ) → Bytes bytes → IsAccepted (foundIn tag bytes .verdict) → (s : Shard) × Spelling tag bytes s
-  tree-of bytes b a = let (s, x) = layout tag n t .accepted bytes b .0 a in (s, spelling bytes s x)
+-- ## Its offset
 
 -- its offset lies between its two bookends
 pub parted : (tag bytes : List ℕ) (s : Shard) → Spelling tag bytes s → Parted bytes (offsetIn tag bytes)

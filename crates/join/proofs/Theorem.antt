@@ -10,11 +10,11 @@ use Rattle.words.specs.Le.{Bytes}
 use Rattle.rules.specs.declared.Refusal.{Refusal}
 use Rattle.layout.specs.Layout.{Row, fileRows, xorbRows}
 use Rattle.layout.proofs.Lists.{joined-append}
+use Rattle.layout.proofs.Last.{spelling}
 use Rattle.join.specs.Join.{joinedBytes, joinOf, bufferBy, bufferOf}
 use Rattle.join.specs.Claims.{joinTree, resultOf, ofFile, ofXorb, recordsIn, Joinable, JoinClaim, BufferClaim}
 use Rattle.join.specs.declared.Joined.{Joined}
 use Rattle.join.specs.declared.Joined.the-variants.{Wrote, Refused}
-use Rattle.join.proofs.Spelled.{spelling}
 use Rattle.join.proofs.Sections.{length-both}
 use Rattle.join.proofs.Exactly.{answer-is, written, writes, spells-both}
 use Rattle.join.proofs.Results.{joinable-of, trees, result-there}

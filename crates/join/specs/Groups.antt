@@ -7,7 +7,7 @@ use mathlib.Core.List.{List, [], _∷_, _++_}
 use Prim.Native.Nat.{ℕ, _+_, _-_, _≤_}
 use lib.ListN.{length}
 use Rattle.words.specs.Le.{Bytes}
-use Rattle.layout.specs.Layout.{Shard, Each, Sound, joined, bytesOf}
+use Rattle.layout.specs.Layout.{Shard, Each, joined}
 use Rattle.layout.specs.Claim.{Spells}
 use Rattle.join.specs.Claims.{resultOf, Joinable}
 
