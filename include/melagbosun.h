@@ -1,4 +1,4 @@
-/* Shards read and written, for C. `./archive` makes the library, target/staticlib/libmelagbosun.a (x86-64); link it with
+/* Shards read, written and joined, for C. `./archive` makes the library, target/staticlib/libmelagbosun.a (x86-64); link it with
  * `cc program.c -Iinclude -Ltarget/staticlib -lmelagbosun`.
  *
  * No call keeps, allocates or frees anything: a state goes in by value and the next one comes back in the answer. A lent

@@ -19,7 +19,7 @@ pub const CASES: u64 = 40;
 pub const SEED: u64 = 2_767;
 
 /// The longest shard that the program reads.
-const MOST: usize = 8_192;
+const SHARD_MOST: usize = 8_192;
 
 /// A case, and the lengths of the pieces that it is read in; two shards to be
 /// joined, and the buffer that is lent for it.
@@ -45,7 +45,7 @@ impl Entry {
         let longest = rng.pick(&[1, 10, 60, 255]);
         let count = rng.pick(&[0, 1, 2, 7]);
         let pieces = (0..count).map(|_| rng.below(longest + 1) as u8).collect();
-        let pair = Draw::short_pair(rng, number, MOST);
+        let pair = Draw::short_pair(rng, number, SHARD_MOST);
         let room = rng.pick(&ROOMS).bytes(rng, &pair);
         let buffer = (0..room).map(|_| rng.word() as u8).collect();
         Entry {

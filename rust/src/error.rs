@@ -10,7 +10,7 @@ pub struct Refusal {
     /// The number, 1 to 16 or 30.
     pub number: u32,
     /// Where the record starts that is at fault or missing; of 14 the first byte too many, of 15 and 16 where the writer
-    /// stands. Of two shards that can't be joined it is 0.
+    /// stands. Of two accepted shards that can't be joined it is 0.
     pub position: Position,
 }
 

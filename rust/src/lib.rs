@@ -1,4 +1,4 @@
-//! Shards read and written through a library that is proved to follow its written rules.
+//! Shards read, written and joined through a library that is proved to follow its written rules.
 //!
 //! - [`Reader`] reads a shard in pieces, [`Writer`] writes one record by record.
 //! - [`judge`] answers for a whole shard in a buffer, [`find_chunk`] and [`find_file`] look for a hash in it.

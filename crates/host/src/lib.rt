@@ -1,6 +1,6 @@
 // What crosses to C: states and answers as structs of numbers, and the ways out and in again. The functions that a host calls
-// are in host_read, host_step, host_write and host_whole. What each number means is said in specs/Boundary, and for C in
-// include/melagbosun.h.
+// are in host_read, host_step, host_write and host_whole. What each number means is said in specs/Boundary, Founds and Joins, and
+// for C in include/melagbosun.h.
 pub mod founds;
 pub mod joins;
 mod places;

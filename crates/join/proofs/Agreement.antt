@@ -1,11 +1,11 @@
 -- Files agree about bit 31 in two lists joined exactly if they do in each and their first ones do, because all agree with the first. Assumes nothing.
 use mathlib.Core.Path.{_≡_, refl, sym, ap, _∙_, subst}
-use mathlib.Core.Bool.{Bool, true, _||_}
+use mathlib.Core.Bool.{Bool, true}
 use mathlib.Core.Option.{none}
 use mathlib.Core.List.{List, [], _∷_, _++_, append-assoc}
 use Prim.Native.Nat.{ℕ}
 use native.Mathlib.Omega.{arith}
-use lib.Dec.{eqb, eqb·suc-zero}
+use lib.Dec.{eqb·suc-zero}
 use lib.ListN.{length, take, drop}
 use lib.Seq.{take-at, drop-at}
 use Rattle.words.specs.Le.{Bytes}
@@ -21,7 +21,7 @@ use Rattle.layout.proofs.Lists.{each-append, each-first, each-second}
 use Rattle.layout.proofs.Rows.{Goes, stepped}
 use Rattle.layout.proofs.ShardForth.{shard-go}
 use Rattle.layout.proofs.Last.{Spelling}
-use Rattle.join.specs.Join.{firstFlags}
+use Rattle.join.specs.Join.{firstFlags, agreeBy}
 use Rattle.join.specs.Claims.{firstsAgree}
 use Rattle.join.proofs.Spelled.{headBytes, fileBytes, endBytes, xorbBytes, inOrder, bytes-are}
 
@@ -100,10 +100,7 @@ abbrev FlagsAre : ℕ → List FileBlock → Type 0
 FlagsAre a [] = Unit {0}
 FlagsAre a (f ∷ fs) = a ≡ flagsOf f
 
-abbrev pub agreeTest : ℕ → ℕ → ℕ → ℕ → Bool
-agreeTest n m a b = eqb n 0 || eqb m 0 || same31 a b
-
-test-is : (fs gs : List FileBlock) (a b : ℕ) → FlagsAre a fs → FlagsAre b gs → agreeTest (length fs) (length gs) a b ≡ firstsAgree fs gs
+test-is : (fs gs : List FileBlock) (a b : ℕ) → FlagsAre a fs → FlagsAre b gs → agreeBy (length fs) (length gs) (same31 a b) ≡ firstsAgree fs gs
 test-is [] gs a b ea eb = refl
 test-is (f ∷ fs) [] a b ea eb = rw (eqb·suc-zero (length fs))
 test-is (f ∷ fs) (g ∷ gs) a b ea eb = rw (eqb·suc-zero (length fs), eqb·suc-zero (length gs), ea, eb)
@@ -126,5 +123,5 @@ flags-are tag bytes s b o e = go (s .files) refl
     go (f ∷ fs) h = first-flags tag bytes s f fs b o e h
 
 pub test-agrees : (tag first second : List ℕ) (s t : Shard) → Bytes tag → Spelling tag first s → Spelling tag second t → s .footer ≡ none → t .footer ≡ none
-    → agreeTest (length (s .files)) (length (t .files)) (firstFlags first) (firstFlags second) ≡ firstsAgree (s .files) (t .files)
+    → agreeBy (length (s .files)) (length (t .files)) (same31 (firstFlags first) (firstFlags second)) ≡ firstsAgree (s .files) (t .files)
 test-agrees tag first second s t b o p es et = test-is (s .files) (t .files) _ _ (flags-are tag first s b o es) (flags-are tag second t b p et)

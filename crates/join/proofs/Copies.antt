@@ -1,30 +1,13 @@
--- A copy, byte after byte, as a loop makes it; and four copies are the joined bytes, because each begins where the one before ended. Assumes nothing.
-use mathlib.Core.Path.{_≡_, refl, _∙_}
+-- Four copies, one behind the other, are the joined bytes, because each begins where the one before ended. Assumes nothing.
+use mathlib.Core.Path.{_≡_, ap, _∙_}
 use mathlib.Core.List.{List, _++_}
-use Prim.Native.Nat.{ℕ, zero, suc, _+_, _-_, _≤_, _<_}
-use native.Mathlib.Nat.{not-suc-le-zero}
-use native.Mathlib.Numerals.{add-one, sub-one}
+use Prim.Native.Nat.{ℕ, _+_, _-_, _≤_}
 use native.Mathlib.Omega.{arith}
-use lib.ListN.{length, getD, take, drop, set, length-append, length-drop}
-use lib.Seq.{drop-cons, length-take-le}
+use lib.ListN.{length, take, drop, length-append, length-drop}
+use lib.Seq.{length-take-le}
 use Rattle.words.specs.Le.{puts}
-use Rattle.words.proofs.Stores.{puts-append}
+use Rattle.words.proofs.Stores.{puts-then}
 use Rattle.join.specs.Join.{part, Parted, joinedAt, joinedLength}
-
--- ## One copy
-
-pub copy-step : (n : ℕ) (to : List ℕ) (j : ℕ) (from : List ℕ) (i : ℕ) → 0 < n → i < length from
-    → puts to j (take n (drop i from)) ≡ puts (set to j (getD from i 0)) (j + 1) (take (n - 1) (drop (i + 1) from))
-unfolding puts
-copy-step zero to j from i h k = absurd (not-suc-le-zero h)
-copy-step (suc n) to j from i h k = rw (drop-cons from i 0 k, sub-one, add-one i)
-
-pub copy-done : (n : ℕ) (to : List ℕ) (j : ℕ) (from : List ℕ) (i : ℕ) → n ≤ 0 → puts to j (take n (drop i from)) ≡ to
-unfolding puts
-copy-done zero to j from i h = refl
-copy-done (suc n) to j from i h = absurd (not-suc-le-zero h)
-
--- ## Four copies
 
 length-part : (from to : ℕ) (s : List ℕ) → from ≤ to → to ≤ length s → length (part from to s) ≡ to - from
 length-part from to s h k = length-take-le (to - from) (drop from s) (rw length-drop (omega arith))
@@ -47,9 +30,9 @@ module _ (first second : List ℕ) (x y : ℕ) (p : Parted first x) (q : Parted 
 
   -- one copy behind the others
   put-next : (l₀ : List ℕ) {l₁ l₂ : List ℕ} (a b : List ℕ) (k : ℕ) → length a ≡ k → l₁ ≡ puts l₀ 0 a → l₂ ≡ puts l₁ k b → l₂ ≡ puts l₀ 0 (a ++ b)
-  put-next l₀ a b k e f g =
-      let z : k ≡ 0 + length a = omega (arith, e) in
-      rw (g, f, z) (puts-append l₀ 0 a b)
+  put-next l₀ {l₁} a b k e f g =
+      let z : k ≡ 0 + k = omega arith in
+      puts-then k l₀ 0 a b e f (g ∙ ap (λ (i : ℕ). puts l₁ i b) z)
 
   pub four-copies : (l₀ : List ℕ) {l₁ l₂ l₃ l₄ : List ℕ}
       → l₁ ≡ puts l₀ 0 (take (x - 48) (drop 0 first))

@@ -5,12 +5,10 @@ use mathlib.Core.Option.{Option, none, some}
 use mathlib.Core.List.{List}
 use Prim.Native.Nat.{ℕ, _+_, _-_, _≤_}
 use native.Mathlib.Omega.{arith}
-use lib.ListN.{length}
 use Rattle.words.specs.Le.{Bytes}
 use Rattle.rules.specs.Rules.{limit, same31}
-use Rattle.rules.specs.declared.Summary.{Summary}
 use Rattle.layout.specs.Layout.{Foot, Shard, has, lengthOf, totalsOf, Sound, SoundFile, SoundXorb}
-use Rattle.layout.specs.Claim.{Spells}
+use Rattle.layout.specs.Claim.{summaryFor, Spells}
 use Rattle.layout.proofs.Lists.{each-append}
 use Rattle.layout.proofs.Last.{Spelling}
 use Rattle.join.specs.Join.{firstFlags, joinedLength, joinFault, faultFor, answerBy, answerFor, joinOf, joinedBytes}
@@ -19,10 +17,6 @@ use Rattle.join.specs.declared.Joined.the-variants.{Wrote}
 use Rattle.join.proofs.Checks.{all-passed, no-fault, second-same, answer-wrote, both-false}
 use Rattle.join.proofs.Sections.{bytes-joined, length-both}
 use Rattle.join.proofs.Agreement.{SameFirst, agree-both, agree-firsts, test-firsts, firsts-test, test-agrees}
-
--- what is found of a tree
-abbrev pub summaryFor : Shard → Summary
-summaryFor s = record { length = lengthOf s; totals = totalsOf s; footer = has (s .footer) }
 
 pub has-none : (o : Option Foot) → has o ≡ false → o ≡ none
 has-none none e = refl

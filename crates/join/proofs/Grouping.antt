@@ -91,7 +91,7 @@ module _ (tag : List ℕ) (n32 : length tag ≡ 32) (b : Bytes tag) where
       let (first, second, e1, e2, e3) = two-come g h buffer bytes e in
       let (x, rg) = comes g (o .front) (o .of-front) first e1 in
       let (y, rh) = comes h (o .back) (o .of-back) second e2 in
-      let (j, l, r) = result-told tag n32 b first second buffer bytes s t (spelling tag n32 b first s x) (spelling tag n32 b second t y) e3 in
+      let (l, r) = result-told tag n32 b first second buffer bytes s t (spelling tag n32 b first s x) (spelling tag n32 b second t y) e3 in
       let fits : lengthIn g + lengthIn h - 144 ≤ length buffer = omega (arith, l, length-is g (o .front) (o .of-front), length-is h (o .back) (o .of-back), length-both s t refl refl) in
       (subst (λ (u : Shard). Spells tag u bytes) (sym (ap treeOf (o .same) ∙ tree-both (o .front) (o .back))) (r .spells), (rg, rh, fits))
 

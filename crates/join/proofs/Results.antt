@@ -12,6 +12,7 @@ use Rattle.rules.specs.declared.Summary.{Summary}
 use Rattle.rules.specs.declared.Verdict.{Verdict}
 use Rattle.rules.specs.declared.Verdict.the-variants as verdict
 use Rattle.layout.specs.Layout.{Shard, has, lengthOf}
+use Rattle.layout.specs.Claim.{summaryFor}
 use Rattle.layout.specs.Scan.{Found, foundIn, IsAccepted}
 use Rattle.layout.proofs.Last.{Spelling, spelling, tree-of}
 use Rattle.join.specs.Join.{joinedBytes, joinedLength, firstFlags, faultFor, ifAccepted, answerFor, joinOf, bufferOf}
@@ -19,7 +20,7 @@ use Rattle.join.specs.Claims.{joinTree, resultBy, resultOf, Joins, Joins
 use Rattle.join.specs.declared.Joined.{Joined}
 use Rattle.join.specs.declared.Joined.the-variants.{Wrote, Refused}
 use Rattle.join.proofs.Checks.{all-passed, answer-wrote, both-false}
-use Rattle.join.proofs.Exactly.{summaryFor, has-none, written, writes, spells-both}
+use Rattle.join.proofs.Exactly.{has-none, written, writes, spells-both}
 
 -- ## Accepted, and without footer
 
@@ -94,13 +95,13 @@ module _ (tag : List ℕ) (n32 : length tag ≡ 32) (b : Bytes tag) where
   pub result-joinable : (first second buffer result : List ℕ) → resultOf tag first second buffer ≡ some result → Joinable tag first × Joinable tag second
   result-joinable first second buffer result e = let (n, w) = was-written first second buffer result e in both-joinable tag first second (length buffer) n w
 
-  -- whose trees can be joined and have room, and what is there is spelled by the tree of both
+  -- whose trees have room joined, and what is there is spelled by the tree of both
   pub result-told : (first second buffer result : List ℕ) (s t : Shard) → Spelling tag first s → Spelling tag second t → resultOf tag first second buffer ≡ some result
-      → Joins s t × (lengthOf (joinTree s t) ≤ length buffer) × Spelling tag result (joinTree s t)
+      → (lengthOf (joinTree s t) ≤ length buffer) × Spelling tag result (joinTree s t)
   result-told first second buffer result s t o p e =
       let (n, w) = was-written first second buffer result e in
       let k : JoinsIn s t (length buffer) n = written tag b first second s t o p (length buffer) n w in
       let l : lengthOf (joinTree s t) ≤ length buffer = omega (arith, k .long, k .fits) in
       let h : some result ≡ some (joinedBytes tag first second) = sym e ∙ result-there first second buffer s t o p (k .joins) l in
       let r : result ≡ joinedBytes tag first second = cc in
-      (k .joins, l, subst (λ (bytes : List ℕ). Spelling tag bytes (joinTree s t)) (sym r) (result-spelling first second s t o p (k .joins)))
+      (l, subst (λ (bytes : List ℕ). Spelling tag bytes (joinTree s t)) (sym r) (result-spelling first second s t o p (k .joins)))

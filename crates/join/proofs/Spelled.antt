@@ -3,19 +3,17 @@
 use mathlib.Core.Path.{_≡_, _∙_}
 use mathlib.Core.Option.{Option, none}
 use mathlib.Core.List.{List, [], _∷_, _++_, append-assoc, append-nil}
-use Prim.Native.Nat.{ℕ, zero, suc, _/_}
+use Prim.Native.Nat.{ℕ}
 use native.Mathlib.Omega.{arith}
-use lib.ListN.{getD}
-use Rattle.words.specs.Le.{Bytes, spell}
-use Rattle.words.specs.Record.{hashAt, spellHash, spellWords}
-use Rattle.words.specs.declared.Words.{Words}
-use Rattle.words.proofs.Numbers.{bytes-none}
+use Rattle.words.specs.Le.{Bytes}
+use Rattle.words.specs.Record.{hashAt, spellWords}
+use Rattle.words.proofs.Numbers.{bytes-none, bytes-append}
+use Rattle.words.proofs.Records.{words-bytes}
 use Rattle.rules.specs.declared.Kind.the-variants as kind
 use Rattle.layout.specs.Layout.{Foot, Shard, Row, row, listed, joined, spellFoot, headerRow, fileRows, xorbRows, bookend, rowsOf, fileSection, xorbSection, spellRows, xorbOffset, footerOffset, bytesOf}
 use Rattle.layout.proofs.ShardForth.{length-files, length-of}
 use Rattle.layout.proofs.Last.{Spelling}
 use Rattle.layout.proofs.Lists.{spell-append}
-use Rattle.reader.proofs.Reached.{bytes-append}
 use Rattle.join.specs.Join.{Parted, offsetIn}
 
 -- ## Its offset
@@ -64,25 +62,6 @@ unfolding bytesOf rowsOf fileSection xorbSection
 bytes-are tag s e = rw (end-bytes (xorbOffset s) (footerOffset s) (s .footer) e, append-nil, head-bytes tag s e, sections (joined fileRows (s .files)) (joined xorbRows (s .xorbs)))
 
 -- ## They are bytes
-
-spell-bytes : (w x : ℕ) → Bytes (spell w x)
-unfolding spell
-spell-bytes zero x i = bytes-none i
-spell-bytes (suc w) x zero = omega arith
-spell-bytes (suc w) x (suc i) = spell-bytes w (x / 256) i
-
--- four numbers behind some bytes
-four-bytes : (bytes : List ℕ) (w a b c d : ℕ) → Bytes bytes → Bytes (bytes ++ spell w a ++ spell w b ++ spell w c ++ spell w d)
-four-bytes bytes w a b c d h =
-    bytes-append (bytes ++ spell w a ++ spell w b ++ spell w c) (spell w d)
-    (bytes-append (bytes ++ spell w a ++ spell w b) (spell w c)
-    (bytes-append (bytes ++ spell w a) (spell w b) (bytes-append bytes (spell w a) h (spell-bytes w a)) (spell-bytes w b)) (spell-bytes w c)) (spell-bytes w d)
-
-words-bytes : (w : Words) → Bytes (spellWords w)
-unfolding spellWords spellHash
-words-bytes w =
-    let h : List ℕ = w .hash in
-    four-bytes (spellHash h) 4 (w .a) (w .b) (w .c) (w .d) (four-bytes [] 8 (getD h 0 0) (getD h 1 0) (getD h 2 0) (getD h 3 0) bytes-none)
 
 rows-bytes : (rs : List Row) → Bytes (spellRows rs)
 rows-bytes [] = bytes-none

@@ -63,9 +63,13 @@ joinFault footer agree size room =
     -- the buffer is not shorter than the result
     15 unless leb size room then fine
 
--- of two accepted shards, whose first flags are the same about bit 31 or not
+-- so many files and so many, of which the first flags are the same about bit 31 or not
+abbrev pub agreeBy : ℕ → ℕ → Bool → Bool
+agreeBy n m same = eqb n 0 || eqb m 0 || same
+
+-- of two accepted shards
 abbrev pub faultFor : Summary → Summary → Bool → ℕ → ℕ → ℕ
-faultFor s t same size room = joinFault (s .footer || t .footer) (eqb (s .totals .files) 0 || eqb (t .totals .files) 0 || same) size room
+faultFor s t same size room = joinFault (s .footer || t .footer) (agreeBy (s .totals .files) (t .totals .files) same) size room
 
 -- these four are refused at 0
 abbrev pub answerBy : ℕ → ℕ → Joined

@@ -1,15 +1,18 @@
 // The two shards are judged where they stand, and the joined one is written once no check has failed.
 use crate::Joined;
-use crate::copying::put_joined;
 use reader::last_place;
 use rules::Place;
 use rules::Position;
 use rules::Refusal;
 use rules::Verdict;
 use rules::same_31;
+use words::Words;
 use words::number::u32_at;
+use words::part::put_part;
 ghost use mathlib.Core.Path.{_≡_};
+ghost use Prim.Native.Nat.{_+_, _≤_};
 ghost use lib.ListN.{length};
+ghost use Rattle.words.specs.Le.{puts};
 ghost use Rattle.rules.specs.Verdicts.{summaryOf};
 ghost use Rattle.join.specs.Join.{Parted, joinedAt, faultFor, answerFor, bufferBy, joinOf, bufferOf};
 
@@ -45,7 +48,7 @@ fn join_accepted(first: &[u8], one: Place, second: &[u8], two: Place, out: &mut 
     if number == 0 {
         let x = one.offset;
         let y = two.offset;
-        put_joined(first, x.0 as usize, second, y.0 as usize, out);
+        put_joined(out, first, x.0 as usize, second, y.0 as usize);
         return Joined::Wrote(size);
     }
     let start = Place::START;
@@ -72,4 +75,20 @@ fn fault(one: Place, two: Place, same: bool, size: usize, room: usize) -> u32
         return Refusal::BUFFER;
     }
     0
+}
+
+// The joined shard, at the start of a buffer; x and y are the two xorb offsets.
+fn put_joined(out: &mut [u8], first: &[u8], x: usize, second: &[u8], y: usize)
+    requires { ⌜ Parted (now first) x × Parted (now second) y × (length (now first) + length (now second) ≤ length (now out) + 144) ⌝ }
+    ensures { λ _. ⌜ now (out .exit) ≡ puts (now (out .entry)) 0 (joinedAt (now (first .entry)) x (now (second .entry)) y) ⌝ }
+{
+    // The lengths of the four parts.
+    let a = x - Words::SIZE;
+    let b = y - Words::SIZE;
+    let c = first.len() - Words::SIZE - x;
+    let d = second.len() - y;
+    put_part(out, 0, first, 0, a);
+    put_part(out, a, second, Words::SIZE, b);
+    put_part(out, a + b, first, x, c);
+    put_part(out, a + b + c, second, y, d);
 }

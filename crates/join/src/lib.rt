@@ -2,7 +2,6 @@
 // What is answered and written is said in specs/Join.
 use rules::Refusal;
 
-mod copying;
 mod joining;
 
 pub use joining::join;

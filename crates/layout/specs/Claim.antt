@@ -8,11 +8,15 @@ use lib.ListN.{length, take}
 use Rattle.words.specs.Le.{Bytes, spell}
 use Rattle.layout.specs.Scan.{Found, foundIn, IsAccepted}
 use Rattle.layout.specs.Layout.{Shard, Sound, footerSize, has, bytesOf, recordsOf, totalsOf, lengthOf}
+use Rattle.rules.specs.declared.Summary.{Summary}
 use Rattle.rules.specs.declared.Verdict.the-variants.{Accepted}
 
--- what is to be found in a shard's bytes
+-- what is to be said of a shard, and found in its bytes
+abbrev pub summaryFor : Shard → Summary
+summaryFor s = record { length = lengthOf s; totals = totalsOf s; footer = has (s .footer) }
+
 abbrev pub meaningOf : List ℕ → Shard → Found
-meaningOf tag s = record { records = recordsOf tag s; verdict = Accepted (record { length = lengthOf s; totals = totalsOf s; footer = has (s .footer) }) }
+meaningOf tag s = record { records = recordsOf tag s; verdict = Accepted (summaryFor s) }
 
 -- a sound shard that is spelled so
 pub record Spells (tag : List ℕ) (s : Shard) (bytes : List ℕ) : Type 0 where

@@ -12,7 +12,7 @@ use Rattle.words.specs.Le.{Bytes}
 use Rattle.words.specs.Record.{hashAt}
 use Rattle.cut.specs.Format.{Judged, good, bad, State, at, stopped, settle, fill, run}
 use Rattle.cut.specs.Calls.{joined, endStep, inStep, step, feed, offered, looked, lookedAll}
-use Rattle.words.proofs.Numbers.{bytes-none}
+use Rattle.words.proofs.Numbers.{bytes-none, bytes-append}
 use Rattle.cut.proofs.Runs.{run-nil, run-append}
 use Rattle.cut.proofs.Cut.{feed-run}
 use Rattle.rules.specs.Rules.{sizeOf, nothing}
@@ -29,7 +29,7 @@ use Rattle.layout.proofs.States.{states, calls}
 use Rattle.reader.specs.Stream.{tagIn, noRecord, fresh, verdictOf}
 use Rattle.reader.specs.Readings.{recordBy, handedOut, Seen, offers, fed, called, readerOf, seenOf, lookedAt, CutClaim, CallsClaim}
 use Rattle.reader.proofs.Bridge.{saidAt, outOf}
-use Rattle.reader.proofs.Reached.{bytes-append, looked-bytes, Standing, standing-begin, fits, standing-run, standing-step, reader-step, fresh-begin}
+use Rattle.reader.proofs.Reached.{looked-bytes, Standing, standing-begin, fits, standing-run, standing-step, reader-step, fresh-begin}
 
 -- ## A call hands out the records of its step
 

@@ -2,8 +2,8 @@
 use mathlib.Core.Path.{_≡_, refl, sym, ap, _∙_, subst}
 use mathlib.Core.Logic.{_⊎_, inl, inr}
 use mathlib.Core.Bool.{Bool, true, false}
-use mathlib.Core.List.{List, [], _∷_, _++_}
-use Prim.Native.Nat.{ℕ, zero, suc, _-_, _≤_, _<_, min}
+use mathlib.Core.List.{List, [], _++_}
+use Prim.Native.Nat.{ℕ, _-_, _≤_, _<_, min}
 use native.Mathlib.Omega.{arith}
 use lib.Dec.{eqb}
 use lib.ListN.{length, take, drop, replicate, length-append, length-replicate}
@@ -11,11 +11,10 @@ use lib.Seq.{drop-append-seam}
 use Rattle.words.specs.Checks.{pick}
 use Rattle.words.specs.Le.{Bytes}
 use Rattle.words.specs.Record.{hashAt}
-use Rattle.words.proofs.Numbers.{take-bytes}
+use Rattle.words.proofs.Numbers.{take-bytes, bytes-none, bytes-append}
 use Rattle.cut.specs.Format.{State, at, stopped, Run, run, thenRun}
 use Rattle.cut.specs.Calls.{Fit, step, looked}
 use Rattle.cut.specs.Fate.{Reads, Ending, early, done, over, faulty}
-use Rattle.words.proofs.Numbers.{bytes-none}
 use Rattle.cut.proofs.Fate.{fate}
 use Rattle.cut.proofs.Runs.{run-nil, run-append, run-stopped}
 use Rattle.cut.proofs.Steps.{step-looked}
@@ -37,11 +36,6 @@ use Rattle.carry.proofs.Sizes.{size-most}
 use Rattle.reader.proofs.Bridge.{outOf, Known, step-out}
 
 -- ## Bytes
-
-pub bytes-append : (xs ys : List ℕ) → Bytes xs → Bytes ys → Bytes (xs ++ ys)
-bytes-append [] ys a b i = b i
-bytes-append (x ∷ xs) ys a b zero = a 0
-bytes-append (x ∷ xs) ys a b (suc i) = bytes-append xs ys (λ j. a (suc j)) b i
 
 pub looked-bytes : (tag : List ℕ) (s : State Place Place) (piece : List ℕ) → Bytes piece → Bytes (looked (format tag) s piece)
 unfolding looked

@@ -1,4 +1,4 @@
-// The format: its types, and in code the rules that specs/Rules writes down. Reader, writer and finder all go by these.
+// The format: its types, and in code the rules that specs/Rules writes down. Reader, writer, finder and join all go by these.
 use words::Words;
 
 mod checks;

@@ -108,5 +108,18 @@ pub halves : (x : ℕ) → spell 4 (x % 4294967296) ++ spell 4 (x / 4294967296) 
 unfolding spell
 halves x = eight (omega arith) (omega arith) (omega arith) (omega arith) (omega arith) (omega arith) (omega arith) (omega arith)
 
+-- ## Lists of bytes
+
 pub bytes-none : Bytes []
 bytes-none i = lit< tt
+
+pub bytes-append : (xs ys : List ℕ) → Bytes xs → Bytes ys → Bytes (xs ++ ys)
+bytes-append [] ys a b i = b i
+bytes-append (x ∷ xs) ys a b zero = a 0
+bytes-append (x ∷ xs) ys a b (suc i) = bytes-append xs ys (λ j. a (suc j)) b i
+
+pub spell-bytes : (w x : ℕ) → Bytes (spell w x)
+unfolding spell
+spell-bytes zero x i = bytes-none i
+spell-bytes (suc w) x zero = omega arith
+spell-bytes (suc w) x (suc i) = spell-bytes w (x / 256) i

@@ -3,7 +3,7 @@ use mathlib.Core.Path.{_≡_, refl, sym, ap, _∙_}
 use Prim.Native.Nat.{ℕ, zero, suc, _+_, _^_, _≤_, _<_}
 use native.Mathlib.Omega.{arith}
 use mathlib.Core.Bool.{Bool, true, false, _&&_, true≢false}
-use mathlib.Core.List.{List, [], _∷_}
+use mathlib.Core.List.{List, [], _∷_, _++_}
 use lib.ListN.{length, getD, take, drop}
 use lib.Seq.{take-all}
 use lib.Dec.{eqb, lit<}
@@ -11,7 +11,7 @@ use borrow.Author.Tests.{eqb-true, eq-eqb}
 use Rattle.words.specs.Le.{Bytes, leAt, leNum, spell}
 use Rattle.words.specs.Record.{IsHash, hashAt, spellHash, sameHash, ones, isOnes, Whole, wordsAt, spellWords, spellFooter}
 use Rattle.words.specs.declared.Words.{Words}
-use Rattle.words.proofs.Numbers.{num-spell, spell-at, at-lt, part-in}
+use Rattle.words.proofs.Numbers.{num-spell, spell-at, at-lt, part-in, bytes-none, bytes-append, spell-bytes}
 use Rattle.words.proofs.Zeros.{and-left, and-right}
 
 -- ## Hashes
@@ -138,6 +138,19 @@ length-words w = refl
 
 pub words-whole : (bs : List ℕ) (at : ℕ) → Bytes bs → Whole (wordsAt bs at)
 words-whole bs at b = record { hash = hash-is bs at b; a = at-lt 4 bs (at + 32) b; b = at-lt 4 bs (at + 36) b; c = at-lt 4 bs (at + 40) b; d = at-lt 4 bs (at + 44) b }
+
+-- four numbers behind some bytes, and so a whole record, are bytes
+four-bytes : (bytes : List ℕ) (w a b c d : ℕ) → Bytes bytes → Bytes (bytes ++ spell w a ++ spell w b ++ spell w c ++ spell w d)
+four-bytes bytes w a b c d h =
+    bytes-append (bytes ++ spell w a ++ spell w b ++ spell w c) (spell w d)
+    (bytes-append (bytes ++ spell w a ++ spell w b) (spell w c)
+    (bytes-append (bytes ++ spell w a) (spell w b) (bytes-append bytes (spell w a) h (spell-bytes w a)) (spell-bytes w b)) (spell-bytes w c)) (spell-bytes w d)
+
+pub words-bytes : (w : Words) → Bytes (spellWords w)
+unfolding spellWords spellHash
+words-bytes w =
+    let h : List ℕ = w .hash in
+    four-bytes (spellHash h) 4 (w .a) (w .b) (w .c) (w .d) (four-bytes [] 8 (getD h 0 0) (getD h 1 0) (getD h 2 0) (getD h 3 0) bytes-none)
 
 -- ## The footer
 

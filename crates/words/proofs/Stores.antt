@@ -5,8 +5,8 @@ use native.Mathlib.Nat.{not-suc-le-zero, add-zero}
 use native.Mathlib.Numerals.{add-one, sub-one}
 use native.Mathlib.Omega.{arith}
 use mathlib.Core.List.{List, [], _∷_, _++_}
-use lib.ListN.{length, take, drop, set, length-set, replicate}
-use lib.Seq.{sets, sets-eq}
+use lib.ListN.{length, getD, take, drop, set, length-set, replicate}
+use lib.Seq.{sets, sets-eq, drop-cons}
 use Rattle.words.specs.Le.{puts}
 
 pub length-puts : (l : List ℕ) (i : ℕ) (vs : List ℕ) → length (puts l i vs) ≡ length l
@@ -45,3 +45,15 @@ pub fill-done : (n : ℕ) (l : List ℕ) (i v : ℕ) → n ≤ 0 → puts l i (r
 unfolding puts
 fill-done zero l i v h = refl
 fill-done (suc n) l i v h = absurd (not-suc-le-zero h)
+
+-- a part of another list, in the same way
+pub part-step : (n : ℕ) (l : List ℕ) (i : ℕ) (s : List ℕ) (j : ℕ) → 0 < n → j < length s
+    → puts l i (take n (drop j s)) ≡ puts (set l i (getD s j 0)) (i + 1) (take (n - 1) (drop (j + 1) s))
+unfolding puts
+part-step zero l i s j h k = absurd (not-suc-le-zero h)
+part-step (suc n) l i s j h k = rw (drop-cons s j 0 k, sub-one, add-one j)
+
+pub part-done : (n : ℕ) (l : List ℕ) (i : ℕ) (s : List ℕ) (j : ℕ) → n ≤ 0 → puts l i (take n (drop j s)) ≡ l
+unfolding puts
+part-done zero l i s j h = refl
+part-done (suc n) l i s j h = absurd (not-suc-le-zero h)

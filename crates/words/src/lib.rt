@@ -1,8 +1,9 @@
-// Numbers, hashes and whole records in lent bytes: read, written and compared. An inner crate: a function that takes a position asks
+// Numbers, hashes and whole records in lent bytes: read, written and compared; and parts of one slice put into another. An inner crate: a function that takes a position asks
 // that what it reads or writes lies within the slice. What is read and written is said in specs/Le (numbers) and specs/Record (hashes and records).
 pub mod foot;
 pub mod hash;
 pub mod number;
+pub mod part;
 pub mod record;
 
 // Every record of 48 bytes: a hash, and the four numbers at 32, 36, 40 and 44.

@@ -3,11 +3,11 @@ use mathlib.Core.Path.{refl}
 use mathlib.Core.Bool.{true, false}
 use mathlib.Core.List.{List, [], _∷_, _++_}
 use Prim.Native.Nat.{ℕ, _+_}
-use lib.ListN.{take, replicate}
+use lib.ListN.{length, take, replicate}
 use Rattle.cut.specs.Format.{run, push, fill}
 use Rattle.words.specs.Le.{leAt, zerosAt, spell}
 use Rattle.words.specs.Record.{spellHash, spellWords}
-use Rattle.rules.specs.Rules.{limit, faultOf, nextOf, counts, movedTo, start}
+use Rattle.rules.specs.Rules.{limit, faultOf, kindOf, recordOf, nextOf, counts, movedTo, start}
 use Rattle.rules.specs.Verdicts.{refusalAt, verdictAt, summaryOf}
 use Rattle.rules.specs.declared.Summary.{Summary}
 use Rattle.rules.specs.declared.Due.the-variants as due
@@ -15,6 +15,7 @@ use Rattle.layout.specs.Quay.{tag, hash, row, header, bookend}
 use Rattle.layout.specs.Scan.{foundIn, scan}
 use Rattle.layout.specs.Reach.{lastPlace}
 use Rattle.join.specs.Join.{joinedAt, joinedBytes, joinFault, faultFor, answerFor, joinOf, bufferOf}
+use Rattle.join.specs.Claims.{ofFile, ofXorb, recordsIn}
 use Rattle.join.specs.declared.Joined.the-variants.{Wrote, Refused}
 use Rattle.wrong_answers.specs.Wrong.{Wrong, _not_by_, Refuted, refuted}
 use Rattle.wrong_answers.specs.Told.{number, numbers, joinedTold}
@@ -86,8 +87,15 @@ wrongs =
     ∷ (faultFor noFile noFile true (limit + 1) limit not 15 by number)
     -- 6 before 9
     ∷ (faultFor oneFile oneFile false (limit + 1) limit not 6 by number)
+    -- ## `recordsIn`, of which the claims speak
+    -- no record is a file's
+    ∷ (length (recordsIn ofFile tag former) not 0 by number)
+    -- a xorb's is one too
+    ∷ (length (recordsIn ofFile tag former) not 2 by number)
+    -- no record is a xorb's
+    ∷ (length (recordsIn ofXorb tag former) not 0 by number)
     ∷ []
 
 pub join-refuted : Refuted wrongs
-unfolding joinedAt joinedBytes joinFault answerFor joinOf bufferOf lastPlace foundIn scan run push fill verdictAt faultOf nextOf leAt zerosAt spell spellHash spellWords
+unfolding joinedAt joinedBytes joinFault answerFor joinOf bufferOf lastPlace foundIn scan run push fill verdictAt faultOf kindOf recordOf nextOf leAt zerosAt spell spellHash spellWords
 join-refuted = refuted wrongs refl

@@ -3,9 +3,9 @@ use mathlib.Core.Path.{refl}
 use mathlib.Core.Bool.{true}
 use mathlib.Core.List.{List, [], _∷_, _++_}
 use Prim.Native.Nat.{ℕ, _-_}
-use lib.ListN.{drop}
+use lib.ListN.{take, drop}
 use lib.Seq.{paste}
-use Rattle.words.specs.Le.{leAt, spell, zerosAt}
+use Rattle.words.specs.Le.{leAt, puts, spell, zerosAt}
 use Rattle.words.specs.Record.{spellHash, spellWords, footerAt, sameHash, isOnes}
 use Rattle.rules.specs.Rules.{wordsIn}
 use Rattle.carry.specs.Carry.{carryIn}
@@ -23,6 +23,9 @@ wrongs =
     (leAt 4 (1 ∷ 2 ∷ 3 ∷ 4 ∷ []) 0 not leAt 4 (1 ∷ 2 ∷ 2 ∷ 4 ∷ []) 0 by number)
     -- `put_u32`: half of a byte goes to the next one
     ∷ (spell 4 65536 not 0 ∷ 0 ∷ 2 ∷ 0 ∷ [] by numbers)
+    -- `put_part`: the part begins a byte late; a byte more is put
+    ∷ (puts (zeros 4) 1 (take 2 (drop 1 (5 ∷ 6 ∷ 7 ∷ 8 ∷ []))) not 0 ∷ 7 ∷ 8 ∷ 0 ∷ [] by numbers)
+    ∷ (puts (zeros 4) 1 (take 2 (drop 1 (5 ∷ 6 ∷ 7 ∷ 8 ∷ []))) not 0 ∷ 6 ∷ 7 ∷ 8 ∷ [] by numbers)
     -- `Words::write`: two numbers of a record are exchanged
     ∷ (spellWords (words 1 2 3 4) not spellWords (words 1 3 2 4) by numbers)
     -- `Footer::read`: the second reserved area is not looked at
@@ -42,5 +45,5 @@ wrongs =
     ∷ []
 
 pub words-refuted : Refuted wrongs
-unfolding leAt spell zerosAt spellHash spellWords
+unfolding leAt puts spell zerosAt spellHash spellWords
 words-refuted = refuted wrongs refl

@@ -9,22 +9,41 @@ use Rattle.join.proofs.joining.join_accepted.Tie as tie
 
 put-joined-requires : tie.Need-put-joined-requires
 put-joined-requires c κs =
-    let a = c .before .before .before .before .before .before .before .before .before .before .before .args in
+    let c1 = c .before .before .before in
+    let c2 = c1 .before in
+    let c3 = c2 .before in
+    let c4 = c3 .before in
+    let c5 = c4 .before in
+    let c6 = c5 .before .before .before .before in
+    let a = c6 .args in
     let l = room-there (summaryOf (a .one)) (summaryOf (a .two)) (a .first .now) (a .second .now) (a .one .offset .0) (a .two .offset .0) (a .out .now)
-    (c .before .before .before .before .before .before .before .u32-at .ensures) (c .before .before .before .before .before .before .u32-at2 .ensures) (c .before .before .before .before .before .same-31 .ensures) (c .before .before .before .before .fault .ensures) (c .before .before .before .if1 .taken) in
-    (c .before .before .before .before .before .before .before .before .before .before .before .pre .0, c .before .before .before .before .before .before .before .before .before .before .before .pre .1, omega arith)
+    (c5 .u32-at .ensures) (c4 .u32-at2 .ensures) (c3 .same-31 .ensures) (c2 .fault .ensures) (c1 .if1 .taken) in
+    (c6 .pre .0, c6 .pre .1, omega arith)
 
 returns : tie.Need-returns
 returns c =
-    let a = c .before .before .before .before .before .before .before .before .before .before .before .before .before .before .args in
+    let c1 = c .before .before in
+    let c2 = c1 .before .before .before .before in
+    let c3 = c2 .before in
+    let c4 = c3 .before in
+    let c5 = c4 .before in
+    let c6 = c5 .before in
+    let c7 = c6 .before .before .before .before in
+    let a = c7 .args in
     wrote (summaryOf (a .one)) (summaryOf (a .two)) (a .first .now) (a .second .now) (a .one .offset .0) (a .two .offset .0) (a .out .now)
-    (c .before .before .before .before .before .before .before .before .before .before .u32-at .ensures) (c .before .before .before .before .before .before .before .before .before .u32-at2 .ensures) (c .before .before .before .before .before .before .before .before .same-31 .ensures) (c .before .before .before .before .before .before .before .fault .ensures) (c .before .before .before .before .before .before .before .before .before .before .before .before .before .before .pre .0) (c .before .before .before .before .before .before .before .before .before .before .before .before .before .before .pre .1) _ (c .before .before .before .before .before .before .if1 .taken) (c .before .before .put-joined .ensures)
+    (c6 .u32-at .ensures) (c5 .u32-at2 .ensures) (c4 .same-31 .ensures) (c3 .fault .ensures) (c7 .pre .0) (c7 .pre .1) _ (c2 .if1 .taken) (c1 .put-joined .ensures)
 
 returns-2 : tie.Need-returns-2
 returns-2 c =
-    let a = c .before .before .before .before .before .before .before .before .before .args in
+    let c1 = c .before in
+    let c2 = c1 .before in
+    let c3 = c2 .before in
+    let c4 = c3 .before in
+    let c5 = c4 .before in
+    let c6 = c5 .before .before .before .before in
+    let a = c6 .args in
     not-wrote (summaryOf (a .one)) (summaryOf (a .two)) (a .first .now) (a .second .now) (a .one .offset .0) (a .two .offset .0) (a .out .now)
-    (c .before .before .before .before .before .u32-at .ensures) (c .before .before .before .before .u32-at2 .ensures) (c .before .before .before .same-31 .ensures) (c .before .before .fault .ensures) _ _ (c .before .if1 .left) (c .refusal .ensures) refl
+    (c5 .u32-at .ensures) (c4 .u32-at2 .ensures) (c3 .same-31 .ensures) (c2 .fault .ensures) _ _ (c1 .if1 .left) (c .refusal .ensures) refl
 
 pub join-accepted-spec : {M : Type 1} → statement M
 join-accepted-spec =
