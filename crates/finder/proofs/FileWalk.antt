@@ -1,25 +1,24 @@
 -- The walk over file blocks, step by step: what is still to come gives the answer for the whole, because what was passed had not that hash and each
 -- head says how many records follow it. Assumes nothing.
 use mathlib.Core.Path.{_≡_, refl, sym, ap, _∙_, subst}
-use mathlib.Core.Bool.{true, false, true≢false}
+use mathlib.Core.Bool.{true, false}
 use mathlib.Core.List.{List, [], _∷_, _++_}
 use Prim.Native.Nat.{ℕ, _+_, _*_, _≤_}
 use native.Mathlib.Omega.{arith}
 use lib.ListN.{length}
 use Rattle.words.specs.Record.{wordsAt, sameHash, isOnes}
 use Rattle.words.specs.declared.Words.{Words}
-use Rattle.words.proofs.Records.{ones-false}
 use Rattle.rules.specs.Rules.{limit, furtherRecords}
 use Rattle.rules.specs.declared.Record.{Record}
 use Rattle.rules.specs.declared.Kind.{Kind}
-use Rattle.layout.specs.Layout.{FileBlock, Row, Each, flagsOf, fileRows, placed, SoundFile}
-use Rattle.layout.proofs.FilesForth.{length-file, further}
+use Rattle.layout.specs.Layout.{FileBlock, Row, Each, placed, SoundFile}
 use Rattle.finder.specs.Find.{fileAt, fileIn}
 use Rattle.finder.specs.declared.FoundFile.{FoundFile}
 use Rattle.finder.specs.declared.FoundFile.the-variants as file
-use Rattle.finder.proofs.Standing.{Stand, stand-behind, placed-then}
+use Rattle.finder.proofs.Standing.{Stand, placed-then}
 use Rattle.layout.proofs.BlockKinds.{entryRows, Kinds, entry-kinds}
 use Rattle.finder.proofs.Sections.{filesThen}
+use Rattle.finder.proofs.FileHeads.{Head, head-room, at-bookend, at-head, next-due}
 
 -- a kind that changes nothing for files
 abbrev pub NoFile : Kind → Type 0
@@ -43,65 +42,54 @@ pub record FilesLeft (bytes hash : List ℕ) (answer : FoundFile) (at number : �
   pub few : 48 * number ≤ at
   pub short : length bytes ≤ limit
 
--- the records behind a head, by its flags and entries
-records-behind : (f : FileBlock) (w : Words) → SoundFile f → w .a ≡ flagsOf f → w .b ≡ length (f .segments) → length (entryRows f) ≡ furtherRecords (w .a) (w .b)
-unfolding fileRows
-records-behind f w h a b = omega (arith, length-file f, further f (h .matched), ap (λ (x : ℕ). furtherRecords x (w .b)) a, ap (furtherRecords (flagsOf f)) b)
-
 module _ (bytes hash : List ℕ) (answer : FoundFile) (at n : ℕ) (c : FilesLeft bytes hash answer at n) where
   -- a record is there
   pub file-room : at + 48 ≤ length bytes
-  file-room = go (c .files) (c .stand)
-    where
-      go : (fs : List FileBlock) → Stand bytes at (filesThen fs (c .later)) → at + 48 ≤ length bytes
-      go [] (w, l, t) = l
-      go (f ∷ fs) (w, l, t) = l
+  file-room = head-room bytes at (c .later) (c .files) (c .stand)
+
+  -- what is known of the files that are left
+  abbrev Says : List FileBlock → Type 0
+  Says fs = fileIn hash n (placed at (filesThen fs (c .later)) ++ c .behind) ≡ answer
 
   module _ (w : Words) (read : w ≡ wordsAt bytes at) where
     -- the bookend: there is none
     pub no-file-left : isOnes (w .hash) ≡ true → file.Absent ≡ answer
     unfolding fileIn
-    no-file-left e = go (c .files) (c .sound) (c .stand) (c .says)
-      where
-        go : (fs : List FileBlock) → Each SoundFile fs → Stand bytes at (filesThen fs (c .later)) → fileIn hash n (placed at (filesThen fs (c .later)) ++ c .behind) ≡ answer → file.Absent ≡ answer
-        go [] s t a = sym (c .none (at + 48) n) ∙ a
-        go (f ∷ fs) (h, hs) (r, l, t) a = absurd (true≢false (sym e ∙ ap (λ (v : Words). isOnes (v .hash)) (read ∙ r) ∙ ones-false (f .hash) (h .hash) (h .not-ones)))
+    no-file-left e = sym (c .none (at + 48) n) ∙ subst Says (at-bookend bytes at (c .later) w read (c .files) (c .sound) (c .stand) e) (c .says)
 
-    -- a head with that hash
-    pub file-hit : isOnes (w .hash) ≡ false → sameHash (w .hash) hash ≡ true → file.At (record { 0 = n }) (record { 0 = at }) ≡ answer
-    unfolding fileIn
-    file-hit e q = go (c .files) (c .stand) (c .says)
-      where
-        go : (fs : List FileBlock) → Stand bytes at (filesThen fs (c .later)) → fileIn hash n (placed at (filesThen fs (c .later)) ++ c .behind) ≡ answer
-            → file.At (record { 0 = n }) (record { 0 = at }) ≡ answer
-        go [] (r, l, t) a = absurd (true≢false (sym (ap (λ (v : Words). isOnes (v .hash)) (read ∙ r)) ∙ e))
-        go (f ∷ fs) (r, l, t) a =
-            let d : sameHash (f .hash) hash ≡ true = sym (ap (λ (v : Words). sameHash (v .hash) hash) (read ∙ r)) ∙ q in
-            rw d at a
+    module _ (e : isOnes (w .hash) ≡ false) where
+      head : Head bytes at (c .later) w read (c .files)
+      head = at-head bytes at (c .later) w read (c .files) (c .sound) (c .stand) e
 
-    -- a head with another one: the next is behind its records
-    pub next-file : (m : ℕ) → isOnes (w .hash) ≡ false → sameHash (w .hash) hash ≡ false → m ≡ furtherRecords (w .a) (w .b) → FilesLeft bytes hash answer (at + 48 * (1 + m)) (n + 1)
-    unfolding fileIn
-    next-file m e q u = go (c .files) (c .sound) (c .stand) (c .says)
-      where
-        go : (fs : List FileBlock) → Each SoundFile fs → Stand bytes at (filesThen fs (c .later)) → fileIn hash n (placed at (filesThen fs (c .later)) ++ c .behind) ≡ answer
-            → FilesLeft bytes hash answer (at + 48 * (1 + m)) (n + 1)
-        go [] s (r, l, t) a = absurd (true≢false (sym (ap (λ (v : Words). isOnes (v .hash)) (read ∙ r)) ∙ e))
-        go (f ∷ fs) (h, hs) (r, l, t) a =
-            let later : List Row = filesThen fs (c .later) in
-            let p : at + 48 + 48 * length (entryRows f) ≡ at + 48 * (1 + m) = omega (arith, records-behind f w h (ap (λ (v : Words). v .a) (read ∙ r)) (ap (λ (v : Words). v .b) (read ∙ r))) in
-            let d : sameHash (f .hash) hash ≡ false = sym (ap (λ (v : Words). sameHash (v .hash) hash) (read ∙ r)) ∙ q in
-            let k : fileIn hash (n + 1) (placed (at + 48) (entryRows f ++ later) ++ c .behind) ≡ answer = rw d at a in
-            record {
-              files = fs;
-              later = c .later;
-              behind = c .behind;
-              sound = hs;
-              stand = subst (λ (x : ℕ). Stand bytes x later) p (stand-behind bytes (at + 48) (entryRows f) later t);
-              says = subst (λ (x : ℕ). fileIn hash (n + 1) (placed x later ++ c .behind) ≡ answer) p
-                  (sym (ap (fileIn hash (n + 1)) (placed-then (at + 48) (entryRows f) later (c .behind))
-                  ∙ file-past hash (n + 1) (at + 48) (entryRows f) _ (entry-kinds NoFile f (λ g m r x. refl) (λ g m r x. refl) (λ g m r x. refl))) ∙ k);
-              none = c .none;
-              few = omega (arith, c .few);
-              short = c .short;
-            }
+      says : Says (head .file ∷ head .others)
+      says = subst Says (head .are) (c .says)
+
+      same : sameHash (w .hash) hash ≡ sameHash (head .file .hash) hash
+      same = ap (λ (v : Words). sameHash (v .hash) hash) (head .words)
+
+      -- a head with that hash
+      pub file-hit : sameHash (w .hash) hash ≡ true → file.At (record { 0 = n }) (record { 0 = at }) ≡ answer
+      unfolding fileIn
+      file-hit q = rw (sym same ∙ q) at says
+
+      -- a head with another one: the next is behind its records
+      pub next-file : (m : ℕ) → sameHash (w .hash) hash ≡ false → m ≡ furtherRecords (w .a) (w .b) → FilesLeft bytes hash answer (at + 48 * (1 + m)) (n + 1)
+      unfolding fileIn
+      next-file m q u =
+          let f : FileBlock = head .file in
+          let later : List Row = filesThen (head .others) (c .later) in
+          let p : at + 48 + 48 * length (entryRows f) ≡ at + 48 * (1 + m) = omega (arith, head .count) in
+          let k : fileIn hash (n + 1) (placed (at + 48) (entryRows f ++ later) ++ c .behind) ≡ answer = rw (sym same ∙ q) at says in
+          record {
+            files = head .others;
+            later = c .later;
+            behind = c .behind;
+            sound = head .sound;
+            stand = next-due bytes at (c .later) w read (c .files) head (at + 48 * (1 + m)) (omega arith);
+            says = subst (λ (x : ℕ). fileIn hash (n + 1) (placed x later ++ c .behind) ≡ answer) p
+                (sym (ap (fileIn hash (n + 1)) (placed-then (at + 48) (entryRows f) later (c .behind))
+                ∙ file-past hash (n + 1) (at + 48) (entryRows f) _ (entry-kinds NoFile f (λ g m r x. refl) (λ g m r x. refl) (λ g m r x. refl))) ∙ k);
+            none = c .none;
+            few = omega (arith, c .few);
+            short = c .short;
+          }

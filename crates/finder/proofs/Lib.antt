@@ -2,6 +2,7 @@ pub mod Part
 pub mod Standing
 pub mod Sections
 pub mod ChunkWalk
+pub mod FileHeads
 pub mod FileWalk
 pub mod Begin
 pub mod Firsts

@@ -73,7 +73,7 @@ loop-again c =
     let c4 = c3 .before in
     let c5 = c4 .before .before in
     let c6 = c5 .before in
-    next-file _ _ _ _ _ (c6 .loop .inv) _ (c5 .read .ensures) _ (sym (c4 .is-ones .ensures) ∙ c3 .if1 .left) (sym (c2 .same-hash .ensures) ∙ c1 .if2 .left) (c .further-records .ensures .0)
+    next-file _ _ _ _ _ (c6 .loop .inv) _ (c5 .read .ensures) (sym (c4 .is-ones .ensures) ∙ c3 .if1 .left) _ (sym (c2 .same-hash .ensures) ∙ c1 .if2 .left) (c .further-records .ensures .0)
 
 pub find-file-spec : {M : Type 1} → statement M
 find-file-spec =
