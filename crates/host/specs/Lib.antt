@@ -2,3 +2,4 @@ pub mod Boundary
 pub mod Claims
 pub mod Founds
 pub mod Joins
+pub mod Plans

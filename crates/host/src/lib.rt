@@ -4,6 +4,7 @@
 pub mod founds;
 pub mod joins;
 mod places;
+pub mod plans;
 pub mod readers;
 pub mod records;
 pub mod writers;
@@ -151,6 +152,14 @@ pub struct FoundFileState {
 #[repr(C)]
 pub struct JoinedState {
     pub wrote: u64,
+    pub at: u64,
+    pub number: u32,
+}
+
+// What planning gives: so many rows were filled, or 0 and the refusal.
+#[repr(C)]
+pub struct PlannedState {
+    pub rows: u64,
     pub at: u64,
     pub number: u32,
 }

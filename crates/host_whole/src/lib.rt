@@ -1,20 +1,26 @@
-// For a host that has whole shards in buffers: judging one, finding a chunk or a file in it, and joining two.
+// For a host that has whole shards in buffers: judging one, finding a chunk or a file in it, joining two, and planning what to fetch of a file.
 use host::FoundChunkState;
 use host::FoundFileState;
 use host::HashState;
 use host::JoinedState;
+use host::PlannedState;
 use host::VerdictState;
 use host::founds;
 use host::joins;
+use host::plans;
 use host::records;
+use plan::Row;
+use rules::FileNumber;
 ghost use mathlib.Core.Path.{_≡_};
 ghost use lib.ListN.{length};
 ghost use Rattle.layout.specs.Scan.{foundIn};
 ghost use Rattle.finder.specs.Find.{chunkFound, fileFound};
 ghost use Rattle.join.specs.Join.{joinOf, bufferOf};
+ghost use Rattle.plan.specs.Plan.{planOf, answerTo, tableTo};
 ghost use Rattle.host.specs.Boundary.{verdictOut};
 ghost use Rattle.host.specs.Founds.{chunkOut, fileOut};
 ghost use Rattle.host.specs.Joins.{joinedOut};
+ghost use Rattle.host.specs.Plans.{plannedOut};
 
 // The verdict on a whole shard in a lent buffer.
 #[no_mangle]
@@ -48,4 +54,20 @@ pub extern "C" fn mdb_join(tag: &[u8], first: &[u8], second: &[u8], out: &mut [u
     ensures { λ r. ⌜ (r ≡ joinedOut (joinOf (now (tag .entry)) (now (first .entry)) (now (second .entry)) (length (now (out .entry))))) × (now (out .exit) ≡ bufferOf (now (tag .entry)) (now (first .entry)) (now (second .entry)) (now (out .entry))) ⌝ }
 {
     joins::joined_out(join::join(tag, first, second, out))
+}
+
+// The pieces to fetch for the bytes of a file from a up to but not including b, at the start of a lent table.
+#[no_mangle]
+pub extern "C" fn mdb_plan(
+    tag: &[u8],
+    shard: &[u8],
+    file: u32,
+    a: u64,
+    b: u64,
+    table: &mut [Row],
+) -> PlannedState
+    ensures { λ r. ⌜ (r ≡ plannedOut (answerTo (planOf (now (tag .entry)) (now (shard .entry)) file a b (length (now (table .entry))))))
+        × (now (table .exit) ≡ tableTo (planOf (now (tag .entry)) (now (shard .entry)) file a b (length (now (table .entry)))) (now (table .entry))) ⌝ }
+{
+    plans::planned_out(plan::plan(tag, shard, FileNumber(file), a, b, table))
 }

@@ -1,4 +1,4 @@
-// The format: its types, and in code the rules that specs/Rules writes down. Reader, writer, finder and join all go by these.
+// The format: its types, and in code the rules that specs/Rules writes down. Reader, writer, finder, join and plan all go by these.
 use words::Words;
 
 mod checks;
@@ -19,6 +19,7 @@ pub struct FileNumber(pub u32);
 
 pub struct BlockNumber(pub u32);
 
+#[repr(C)]
 pub struct ChunkIndex(pub u32);
 
 impl Position {
@@ -137,6 +138,10 @@ impl Refusal {
     pub const BUFFER: u32 = 15;
 
     pub const NOT_DUE: u32 = 16;
+
+    pub const NO_FILE: u32 = 17;
+
+    pub const RANGE: u32 = 18;
 
     pub const FOOTER: u32 = 30;
 }

@@ -1,0 +1,9 @@
+pub mod Steps
+pub mod Passes
+pub mod Tree
+pub mod Seeking
+pub mod Drafting
+pub mod Table
+pub mod Locals
+pub mod RowClaims
+pub mod PlanClaims

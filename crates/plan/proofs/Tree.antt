@@ -1,0 +1,87 @@
+-- The segments found behind the file head of a number are those of the tree's file of that number, because a block's segments come first behind its
+-- head, and no file head stands elsewhere. Assumes nothing.
+use mathlib.Core.Path.{_≡_, refl, ap, _∙_}
+use mathlib.Core.Bool.{false}
+use mathlib.Core.Option.{Option, none, some}
+use mathlib.Core.List.{List, [], _∷_, _++_, map, append-assoc}
+use Prim.Native.Nat.{ℕ, zero, suc, _+_}
+use Rattle.rules.specs.Kinds.{sameKind}
+use Rattle.rules.specs.declared.Record.{Record}
+use Rattle.rules.specs.declared.Kind.{Kind}
+use Rattle.rules.specs.declared.Kind.the-variants as kind
+use Rattle.layout.specs.Layout.{Hash, Segment, FileBlock, Foot, Shard, Row, listed, members, segmentRow, verificationRow, metadataRow, placed, footRecord, rowsOf, xorbSection, xorbOffset, footerOffset, recordsOf}
+use Rattle.layout.specs.Scan.{Found, foundIn}
+use Rattle.layout.proofs.Last.{Spelling}
+use Rattle.finder.proofs.Standing.{placed-then}
+use Rattle.layout.proofs.BlockKinds.{entryRows, Kinds, entry-kinds}
+use Rattle.finder.proofs.Sections.{filesThen, file-section, xorb-section-kinds}
+use Rattle.plan.specs.Plan.{leading, segmentsAt, segmentsIn}
+
+-- ## Behind a head
+
+-- the first of these is no segment
+abbrev FirstNot : List Record → Type 0
+FirstNot [] = Unit {0}
+FirstNot (r ∷ rs) = sameKind (r .kind) kind.Segment ≡ false
+
+lead-none : (rs : List Record) → FirstNot rs → leading rs ≡ []
+unfolding leading
+lead-none [] h = refl
+lead-none (r ∷ rs) h = rw h
+
+lead : (at : ℕ) (ss : List Segment) (others : List Row) (behind : List Record) → ((p : ℕ) → FirstNot (placed p others ++ behind)) → leading (placed at (map segmentRow ss ++ others) ++ behind) ≡ ss
+unfolding leading
+lead at [] others behind h = lead-none (placed at others ++ behind) (h at)
+lead at (s ∷ ss) others behind h = ap (λ (l : List Segment). s ∷ l) (lead (at + 48) ss others behind h)
+
+-- verifications, metadata, the next head or the bookend
+first-not : (vs ms : List Hash) (fs : List FileBlock) (end : List Row) (behind : List Record) (p : ℕ) → FirstNot (placed p ((map verificationRow vs ++ map metadataRow ms) ++ filesThen fs end) ++ behind)
+first-not [] [] [] end behind p = refl
+first-not [] [] (f ∷ fs) end behind p = refl
+first-not [] (m ∷ ms) fs end behind p = refl
+first-not (v ∷ vs) ms fs end behind p = refl
+
+lead-file : (at : ℕ) (f : FileBlock) (fs : List FileBlock) (end : List Row) (behind : List Record) → leading (placed at (entryRows f ++ filesThen fs end) ++ behind) ≡ f .segments
+lead-file at f fs end behind =
+    let others : List Row = map verificationRow (members (f .verifications)) ++ map metadataRow (listed (f .metadata)) in
+    ap (λ (l : List Row). leading (placed at l ++ behind)) (append-assoc (map segmentRow (f .segments)) others (filesThen fs end))
+    ∙ lead at (f .segments) (others ++ filesThen fs end) behind (first-not (members (f .verifications)) (listed (f .metadata)) fs end behind)
+
+-- ## In a section
+
+abbrev NoHead : Kind → Type 0
+NoHead k = sameKind k kind.FileHead ≡ false
+
+heads-past : (n at : ℕ) (xs : List Row) (behind : List Record) → Kinds NoHead xs → segmentsIn n (placed at xs ++ behind) ≡ segmentsIn n behind
+unfolding segmentsIn
+heads-past n at [] behind h = refl
+heads-past n at (x ∷ xs) behind (h, hs) = rw h (heads-past n (at + 48) xs behind hs)
+
+in-files : (n at : ℕ) (fs : List FileBlock) (end : List Row) (behind : List Record) → ((p m : ℕ) → segmentsIn m (placed p end ++ behind) ≡ none)
+    → segmentsIn n (placed at (filesThen fs end) ++ behind) ≡ segmentsAt n fs
+unfolding segmentsIn
+in-files n at [] end behind h = h (at + 48) n
+in-files zero at (f ∷ fs) end behind h = ap some (lead-file (at + 48) f fs end behind)
+in-files (suc n) at (f ∷ fs) end behind h =
+    ap (segmentsIn n) (placed-then (at + 48) (entryRows f) (filesThen fs end) behind)
+    ∙ heads-past n (at + 48) (entryRows f) _ (entry-kinds NoHead f refl refl refl)
+    ∙ in-files n _ fs end behind h
+
+-- ## In a shard
+
+no-foot : (n x h : ℕ) (o : Option Foot) → segmentsIn n (map (footRecord x h) (listed o)) ≡ none
+unfolding segmentsIn
+no-foot n x h none = refl
+no-foot n x h (some f) = refl
+
+pub in-shard : (tag : List ℕ) (s : Shard) (n : ℕ) → segmentsIn n (recordsOf tag s) ≡ segmentsAt n (s .files)
+unfolding recordsOf rowsOf segmentsIn
+in-shard tag s n =
+    let foot : List Record = map (footRecord (xorbOffset s) (footerOffset s)) (listed (s .footer)) in
+    ap (λ (l : List Row). segmentsIn n (placed 48 l ++ foot)) (file-section s (xorbSection s))
+    ∙ in-files n 48 (s .files) (xorbSection s) foot
+    (λ p m. heads-past m p (xorbSection s) foot (xorb-section-kinds NoHead s refl refl refl) ∙ no-foot m (xorbOffset s) (footerOffset s) (s .footer))
+
+-- and so in the bytes that spell it
+pub in-bytes : (tag bytes : List ℕ) (s : Shard) (n : ℕ) → Spelling tag bytes s → segmentsIn n (foundIn tag bytes .records) ≡ segmentsAt n (s .files)
+in-bytes tag bytes s n o = ap (λ (f : Found). segmentsIn n (f .records)) (o .found) ∙ in-shard tag s n
