@@ -4,13 +4,13 @@ use crate::{ffi, Position};
 use std::error::Error;
 use std::fmt;
 
-/// Why a shard, a tag, an offer or a join was refused, and where.
+/// Why a shard, a tag, an offer, a join or a plan was refused, and where.
 #[derive(Clone, Copy, Debug, PartialEq, Eq, Hash)]
 pub struct Refusal {
-    /// The number, 1 to 16 or 30.
+    /// The number, 1 to 18 or 30.
     pub number: u32,
     /// Where the record starts that is at fault or missing; of 14 the first byte too many, of 15 and 16 where the writer
-    /// stands. Of two accepted shards that can't be joined it is 0.
+    /// stands. Of accepted shards that can't be joined, or planned from as asked, it is 0.
     pub position: Position,
 }
 
@@ -32,8 +32,10 @@ impl Refusal {
             12 => "the footer's version is not 1",
             13 => "an offset in the footer is wrong",
             14 => "something follows the end of the shard",
-            15 => "the buffer is shorter than the record, or than the joined shard",
+            15 => "the buffer is shorter than the record, or than the joined shard, or the table has fewer rows than the plan",
             16 => "this kind of record is not due now",
+            17 => "the shard has no file of that number",
+            18 => "the range is empty or runs backwards, or goes past the end of the file",
             30 => "a shard to be joined has a footer",
             _ => "the refusal has no known number",
         }

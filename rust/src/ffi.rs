@@ -1,6 +1,7 @@
 //! The C boundary of the archive, as `melagbosun.h` declares it, and a safe function over each call.
 #![allow(unsafe_code)]
 
+use crate::FetchRow;
 use std::mem::MaybeUninit;
 use std::ptr;
 
@@ -150,6 +151,14 @@ pub struct Joined {
     pub number: u32,
 }
 
+#[derive(Clone, Copy, Debug)]
+#[repr(C)]
+pub struct Planned {
+    pub rows: u64,
+    pub at: u64,
+    pub number: u32,
+}
+
 /// What a call of the reader says: nothing yet, a record, a refusal. A search: absent, found, refused.
 pub const NOTHING: u32 = 0;
 pub const FOUND: u32 = 1;
@@ -207,6 +216,17 @@ extern "C" {
         out: *mut u8,
         out_length: usize,
     ) -> Joined;
+    fn mdb_plan(
+        tag: *const u8,
+        tag_length: usize,
+        shard: *const u8,
+        length: usize,
+        file: u32,
+        a: u64,
+        b: u64,
+        table: *mut FetchRow,
+        table_length: usize,
+    ) -> Planned;
 }
 
 pub fn reader_new(tag: &[u8]) -> Reader {
@@ -315,6 +335,31 @@ pub fn join(tag: &[u8], first: &[u8], second: &[u8], out: &mut [u8]) -> Joined {
     }
 }
 
+pub fn plan(
+    tag: &[u8],
+    shard: &[u8],
+    file: u32,
+    a: u64,
+    b: u64,
+    table: &mut [FetchRow],
+) -> Planned {
+    // SAFETY: all three slices outlive the call, which only reads the first two and writes whole rows within the last; being
+    // `&mut`, that overlaps none of them. The pointer of an empty slice is not null.
+    unsafe {
+        mdb_plan(
+            tag.as_ptr(),
+            tag.len(),
+            shard.as_ptr(),
+            shard.len(),
+            file,
+            a,
+            b,
+            table.as_mut_ptr(),
+            table.len(),
+        )
+    }
+}
+
 /// The sizes that the C declarations have.
 const _: () = {
     assert!(size_of::<Totals>() == 40);
@@ -332,4 +377,6 @@ const _: () = {
     assert!(size_of::<FoundChunk>() == 24);
     assert!(size_of::<FoundFile>() == 24);
     assert!(size_of::<Joined>() == 24);
+    assert!(size_of::<FetchRow>() == 48);
+    assert!(size_of::<Planned>() == 24);
 };

@@ -1,14 +1,11 @@
 //! Joining shards without footer: the files of all, then the xorbs of all, in the order of the shards, duplicates kept.
 
 use crate::error::refusal;
-use crate::{ffi, Offer, Refusal, Writer};
+use crate::{ffi, Offer, Refusal, Writer, LIMIT};
 use std::borrow::Cow;
 
 /// The length of a shard with nothing in it: a header and two section ends, which a joined shard has once.
 const SMALLEST: usize = 144;
-
-/// No shard is longer. A longer result is refused with 6, however much room is lent.
-const LIMIT: usize = 16_777_216;
 
 /// Joins two shards under one tag into a lent buffer, and answers the length of the joined one: the sum less 144. It stands at the
 /// start of the buffer; no byte behind it changes.

@@ -1,11 +1,12 @@
-//! Shards read, written and joined through a library that is proved to follow its written rules.
+//! Shards read, written, joined and planned from through a library that is proved to follow its written rules.
 //!
 //! - [`Reader`] reads a shard in pieces, [`Writer`] writes one record by record.
 //! - [`judge`] answers for a whole shard in a buffer, [`find_chunk`] and [`find_file`] look for a hash in it.
 //! - [`join_into`] joins two shards into a lent buffer, [`join`] a list of them.
+//! - [`plan`] tells which pieces to fetch for a stretch of one file, [`plan_into`] fills a lent table with them.
 //!
 //! The proved part is the archive `libmelagbosun.a`, for x86-64 only; `./archive` at the top of the repository makes it.
-//! This crate adds types around it and no rules. Only [`join`] allocates.
+//! This crate adds types around it and no rules. Only [`join`] and [`plan`] allocate.
 //!
 //! ```
 //! use melagbosun::{Reader, Record};
@@ -34,6 +35,7 @@ mod error;
 mod ffi;
 mod find;
 mod join;
+mod plan;
 mod reader;
 mod record;
 mod writer;
@@ -41,6 +43,7 @@ mod writer;
 pub use error::{Refusal, Summary, Totals, Verdict};
 pub use find::{find_chunk, find_file, judge, FoundChunk, FoundFile};
 pub use join::{join, join_into};
+pub use plan::{plan, plan_into, FetchRow};
 pub use reader::{Reader, Said, Step};
 pub use record::{BlockNumber, ChunkIndex, FileNumber, Hash, Position, Record};
 pub use writer::{Offer, Writer};
@@ -53,3 +56,6 @@ pub const ENTRY_SIZE: usize = 48;
 
 /// The size of the footer.
 pub const FOOTER_SIZE: usize = 200;
+
+/// No shard is longer: one that would be is refused with 6.
+const LIMIT: usize = 16_777_216;

@@ -17,10 +17,12 @@ pub struct BlockNumber(pub u32);
 
 /// The index of a chunk in its xorb, from 0.
 #[derive(Clone, Copy, Debug, Default, PartialEq, Eq, PartialOrd, Ord, Hash)]
+#[repr(transparent)]
 pub struct ChunkIndex(pub u32);
 
 /// A hash as stored: 32 bytes as four little-endian numbers. Its `Display` is these bytes in their order.
 #[derive(Clone, Copy, Debug, Default, PartialEq, Eq, PartialOrd, Ord, Hash)]
+#[repr(transparent)]
 pub struct Hash(pub [u64; 4]);
 
 impl fmt::Display for Position {
