@@ -94,7 +94,7 @@ pub fn twice_faulty(rng: &mut Rng) -> Case {
 }
 
 /// Gives a record one fault of its kind, but not 9, which hangs on others.
-fn spoil_somehow(rng: &mut Rng, layout: &mut [Laid], place: usize) -> Refusal {
+pub(crate) fn spoil_somehow(rng: &mut Rng, layout: &mut [Laid], place: usize) -> Refusal {
     let list: Vec<u8> = faults(layout[place].kind).to_vec();
     let list: Vec<u8> = list.into_iter().filter(|&number| number != 9).collect();
     let number = rng.pick(&list);

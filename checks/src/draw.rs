@@ -21,14 +21,14 @@ pub struct Draw {
     pub shards: Vec<Vec<u8>>,
 }
 
-/// How much room a pair is lent.
+/// How much room is lent: bytes for a pair, rows for a plan.
 #[derive(Clone, Copy)]
 pub enum Room {
-    /// As much as the joined shard takes.
+    /// As much as the result takes.
     Exact,
-    /// Some bytes more.
+    /// Some more.
     More,
-    /// A byte less.
+    /// One less.
     OneShort,
     /// Less, or nothing.
     Less,
@@ -49,7 +49,11 @@ impl Room {
     /// How many bytes that is for this draw.
     pub fn bytes(self, rng: &mut Rng, draw: &Draw) -> usize {
         let sum: usize = draw.shards.iter().map(Vec::len).sum();
-        let exact = sum.saturating_sub(144);
+        self.around(rng, sum.saturating_sub(144))
+    }
+
+    /// How much that is where so much is taken.
+    pub fn around(self, rng: &mut Rng, exact: usize) -> usize {
         match self {
             Room::Exact => exact,
             Room::More => exact + 1 + rng.place(300),
@@ -255,7 +259,8 @@ pub fn large_footed(rng: &mut Rng, records: usize) -> Vec<u8> {
     flatten(&plan.lay(&usual_tag()))
 }
 
-fn large_plan(rng: &mut Rng, verified: bool, records: usize) -> ShardPlan {
+/// What is laid out for a large shard.
+pub(crate) fn large_plan(rng: &mut Rng, verified: bool, records: usize) -> ShardPlan {
     let segments = records / 5;
     let of_file = 1 + segments * (1 + usize::from(verified));
     let chunks = records - 3 - of_file - 1;
@@ -275,7 +280,8 @@ fn large_plan(rng: &mut Rng, verified: bool, records: usize) -> ShardPlan {
     }
 }
 
-fn segment(rng: &mut Rng) -> SegmentPlan {
+/// A segment of any number of bytes.
+pub(crate) fn segment(rng: &mut Rng) -> SegmentPlan {
     SegmentPlan {
         hash: rng.hash(),
         bytes: rng.number(),

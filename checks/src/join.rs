@@ -68,7 +68,7 @@ fn build(tag: &[u8], first: &Parts, second: &Parts) -> Vec<u8> {
 }
 
 /// These refusals are at position 0.
-fn refuse_if(ground: bool, number: u8) -> Result<(), Refusal> {
+pub(crate) fn refuse_if(ground: bool, number: u8) -> Result<(), Refusal> {
     if ground {
         Err(Refusal::new(number, 0))
     } else {

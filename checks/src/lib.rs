@@ -1,7 +1,7 @@
-//! An independent reader of shards, a join of two, and a seeded maker of good
-//! and damaged ones.
+//! An independent reader of shards, a join of two, a plan of a file's stretch,
+//! and a seeded maker of good and damaged shards.
 //!
-//! Written from the paper `01-scope.md` and the request T-14 of
+//! Written from the paper `01-scope.md` and the requests T-01 and T-14 of
 //! `02-change-requests.md` alone. It shares no code with the product it checks.
 
 #![forbid(unsafe_code)]
@@ -14,5 +14,7 @@ pub mod draw;
 pub mod examples;
 pub mod generate;
 pub mod join;
+pub mod plan;
 pub mod reader;
+pub mod stretch;
 pub mod vectors;

@@ -1,14 +1,11 @@
 //! Joining: both joins on the same shards, and what the request says of every result.
 
 use crate::sights::{Sights, SOME};
-use crate::{alike, hex, same, Checked};
+use crate::{alike, hex, same, shown, Checked};
 use checks::draw::{self, Draw, Room, MOST, ROOMS, TURNS};
 use checks::generate::{usual_tag, Rng};
 use checks::join::join;
 use checks::reader::{judge, u32_at, Refusal, Summary, Verdict, LIMIT};
-
-/// Shards longer than this are not shown.
-const SHOWN: usize = 100_000;
 
 /// A join into a lent buffer.
 type Join = fn(&[u8], &[u8], &[u8], &mut [u8]) -> Result<usize, Refusal>;
@@ -120,10 +117,7 @@ fn tell(what: &str, number: u64, seed: u64, draw: &Draw, difference: String) -> 
     let mut text = format!("{what} {number} of seed {seed}: {difference}");
     text += &format!("\n  tag:   {}", hex(&draw.tag));
     for shard in &draw.shards {
-        text += &match shard.len() {
-            0..=SHOWN => format!("\n  shard: {}", hex(shard)),
-            length => format!("\n  shard: {length} bytes"),
-        };
+        text += &format!("\n  shard: {}", shown(shard));
     }
     text
 }
@@ -179,7 +173,7 @@ fn check_pair(draw: &Draw, room: usize, seen: &mut Sights) -> Checked {
     let what = format!("a join into {room} bytes");
     alike(&what, product(tag, first, second, &mut theirs), answer)?;
     same_bytes(&what, &theirs, &ours)?;
-    seen.pairs += 1;
+    seen.saw("pairs");
     let verdicts = [first, second].map(|shard| judge(tag, shard));
     let grounds = grounds(draw, verdicts, room);
     alike("the ground", answer.err().as_ref(), grounds.first())?;
@@ -284,7 +278,7 @@ fn check_triple(draw: &Draw, seen: &mut Sights) -> Checked {
     same_joined("the first two joined first", &their_left, &left)?;
     same_joined("the last two joined first", &their_right, &right)?;
     same_joined("a list of three", &product_list(draw), &left)?;
-    seen.triples += 1;
+    seen.saw("triples");
     match (&left, &right) {
         (Ok(left), Ok(right)) if left == right => seen.saw("triples accepted"),
         (Err(left), Err(right)) => {
@@ -300,7 +294,7 @@ fn check_triple(draw: &Draw, seen: &mut Sights) -> Checked {
 fn check_list(draw: &Draw, seen: &mut Sights) -> Checked {
     let wanted = fold(draw);
     same_joined("a list", &product_list(draw), &wanted)?;
-    seen.lists += 1;
+    seen.saw("lists");
     seen.saw(match (draw.shards.len(), wanted) {
         (0, _) => "lists of none",
         (1, Ok(_)) => "lists of one accepted",

@@ -1,17 +1,22 @@
-//! `compare N SEED`: N generated inputs, given to the independent reader and to the proved library, and shards joined by both.
-//! Nothing may differ.
+//! `compare N SEED`: N generated inputs, given to the independent reader and to the proved library, shards joined by both, and
+//! stretches of files planned by both. Nothing may differ.
 
 mod join;
+mod plan;
 mod read;
 mod same;
 mod sights;
+mod store;
 mod write;
 
 use checks::cases::{random_case, Case};
 use checks::generate::Rng;
-use sights::Sights;
+use sights::{Sights, JOINS, PLANS};
 use std::env;
 use std::process::ExitCode;
+
+/// Shards longer than this are not shown.
+const SHOWN: usize = 100_000;
 
 /// What two readers or a writer did differently.
 pub type Checked = Result<(), String>;
@@ -65,6 +70,13 @@ fn hex(bytes: &[u8]) -> String {
     bytes.iter().map(|byte| format!("{byte:02x}")).collect()
 }
 
+fn shown(shard: &[u8]) -> String {
+    match shard.len() {
+        0..=SHOWN => hex(shard),
+        length => format!("{length} bytes"),
+    }
+}
+
 fn report(seen: &Seen) {
     println!("{} records in {} bytes", seen.records, seen.bytes);
     println!("{:>14} {:>9} {:>9}", "", "readers", "writer");
@@ -94,19 +106,19 @@ fn inputs(count: u64, seed: u64, seen: &mut Seen) -> Checked {
 /// Compares and reports all; an error is a difference, or something that was seen too seldom.
 fn compare(count: u64, seed: u64) -> Checked {
     let mut seen = Seen::default();
-    let mut joins = Sights::default();
+    let mut joins = Sights::new("joins", JOINS);
+    let mut plans = Sights::new("plans", PLANS);
     inputs(count, seed, &mut seen)?;
     join::compare(count, seed, &mut joins)?;
+    plan::compare(count, seed, &mut plans)?;
     report(&seen);
-    joins.report();
-    joins.enough(count)?;
-    let Sights {
-        pairs,
-        triples,
-        lists,
-        ..
-    } = joins;
+    for sights in [&joins, &plans] {
+        sights.report();
+        sights.enough(count)?;
+    }
+    let [pairs, triples, lists] = ["pairs", "triples", "lists"].map(|name| joins.times(name));
     println!("{pairs} pairs, {triples} triples and {lists} lists joined, 0 differences");
+    println!("{} plans, 0 differences", plans.times("plans"));
     println!("{count} inputs, 0 differences");
     Ok(())
 }

@@ -1,5 +1,6 @@
 //! The product's answers in the words of the independent reader.
 
+use checks::plan::Row;
 use checks::reader as own;
 use melagbosun as product;
 
@@ -145,4 +146,15 @@ pub fn file(from: product::FoundFile) -> own::FileFound {
         number: own::FileNumber(from.file.0.into()),
         position: position(from.position),
     }
+}
+
+pub fn rows(from: &[product::FetchRow]) -> Vec<Row> {
+    let row = |one: &product::FetchRow| Row {
+        xorb: one.xorb.0,
+        start: index(one.start),
+        end: index(one.end),
+        skip: one.skip.into(),
+        take: one.take.into(),
+    };
+    from.iter().map(row).collect()
 }

@@ -1,10 +1,13 @@
-//! What was seen of joins, and what has to be.
+//! What was seen of joins and of plans, and what has to be.
 
 use crate::Checked;
 
-/// Every sight, and how often it is due with 100,000 inputs or more. Down to the longest result they are of accepted pairs,
-/// then of refused ones.
-const LEAST: [(&str, u64); 29] = [
+/// What may be seen, and how often it is due with 100,000 inputs or more.
+type Sight = (&'static str, u64);
+
+/// Every sight of joins. Down to the longest result they are of accepted pairs, then of refused ones.
+pub const JOINS: &[Sight] = &[
+    ("pairs", 5_000),
     ("pairs accepted", 1_500),
     ("files in both", 1_000),
     ("files in the first only", 100),
@@ -25,9 +28,11 @@ const LEAST: [(&str, u64); 29] = [
     ("refused 6", 5),
     ("refused 15", 800),
     ("more than one ground", 800),
+    ("triples", 1_000),
     ("triples accepted", 400),
     ("triples refused", 400),
     ("with two refusals", 100),
+    ("lists", 1_000),
     ("lists of none", 250),
     ("lists of one accepted", 100),
     ("lists of one refused", 80),
@@ -36,25 +41,76 @@ const LEAST: [(&str, u64); 29] = [
     ("longer lists refused", 100),
 ];
 
+/// Every sight of plans. Down to what was fetched they are of accepted ones; an edge is where a segment begins or ends.
+pub const PLANS: &[Sight] = &[
+    ("plans", 10_000),
+    ("plans accepted", 2_000),
+    ("the whole file", 250),
+    ("one byte", 600),
+    ("one row", 1_000),
+    ("several rows", 1_000),
+    ("exact room", 1_200),
+    ("room to spare", 800),
+    ("begins at an edge", 1_000),
+    ("begins in a segment", 1_000),
+    ("ends at an edge", 1_000),
+    ("ends in a segment", 1_000),
+    ("0 bytes between two rows", 250),
+    ("0 bytes beside the range", 500),
+    ("a piece once more", 250),
+    ("the chunks after it", 150),
+    ("more than 2^32 bytes", 450),
+    ("begins beyond 2^32", 100),
+    ("not the first file", 1_000),
+    ("a file beyond 2^16", 1),
+    ("with verifications", 1_000),
+    ("with metadata", 1_000),
+    ("with a footer", 1_000),
+    ("fetched from the store", 1_200),
+    ("refused by the shard", 400),
+    ("refused 17", 600),
+    ("17 by the first too many", 200),
+    ("18 by a = b", 900),
+    ("18 by a > b", 350),
+    ("18 past the end", 1_200),
+    ("18 by one byte", 600),
+    ("18 in an empty file", 400),
+    ("18 without segments", 200),
+    ("u64::MAX as a", 300),
+    ("u64::MAX as b", 300),
+    ("refused 15", 800),
+    ("more than one ground", 900),
+    ("the longest shard", 9),
+];
+
 /// So many inputs bring all of that, fewer the same part of it.
 const USUAL: u64 = 100_000;
 
 /// So many inputs bring each at least once; with fewer nothing is due.
 pub const SOME: u64 = 4_000;
 
-/// How much was compared, and how often each was seen.
-#[derive(Default)]
+/// How often each sight of a list was seen.
 pub struct Sights {
-    pub pairs: u64,
-    pub triples: u64,
-    pub lists: u64,
-    times: [u64; LEAST.len()],
+    of: &'static str,
+    list: &'static [Sight],
+    times: Vec<u64>,
 }
 
 impl Sights {
+    /// None of the list yet.
+    pub fn new(of: &'static str, list: &'static [Sight]) -> Self {
+        let times = vec![0; list.len()];
+        Sights { of, list, times }
+    }
+
+    fn place(&self, name: &str) -> usize {
+        let place = self.list.iter().position(|one| one.0 == name);
+        place.expect("a name of the list")
+    }
+
     pub fn saw(&mut self, name: &str) {
-        let place = LEAST.iter().position(|one| one.0 == name);
-        self.times[place.expect("a name of the list")] += 1;
+        let place = self.place(name);
+        self.times[place] += 1;
     }
 
     pub fn saw_if(&mut self, holds: bool, name: &str) {
@@ -63,16 +119,20 @@ impl Sights {
         }
     }
 
+    pub fn times(&self, name: &str) -> u64 {
+        self.times[self.place(name)]
+    }
+
     pub fn report(&self) {
-        println!("{:>24} {:>9}", "", "joins");
-        for ((name, _), times) in LEAST.iter().zip(self.times) {
+        println!("{:>24} {:>9}", "", self.of);
+        for ((name, _), times) in self.list.iter().zip(&self.times) {
             println!("{name:>24} {times:>9}");
         }
     }
 
     /// An error that names what was seen too seldom.
     pub fn enough(&self, inputs: u64) -> Checked {
-        for (&(name, usual), times) in LEAST.iter().zip(self.times) {
+        for (&(name, usual), &times) in self.list.iter().zip(&self.times) {
             let least = least(usual, inputs);
             if times < least {
                 return Err(format!("\"{name}\" was seen {times} times, not {least}"));
