@@ -1,4 +1,4 @@
-/* Shards read, written and joined, for C. `./archive` makes the library, target/staticlib/libmelagbosun.a (x86-64); link it with
+/* Shards read, written, joined and planned from, for C. `./archive` makes the library, target/staticlib/libmelagbosun.a (x86-64); link it with
  * `cc program.c -Iinclude -Ltarget/staticlib -lmelagbosun`.
  *
  * No call keeps, allocates or frees anything: a state goes in by value and the next one comes back in the answer. A lent
@@ -6,7 +6,7 @@
  * the same call.
  *
  * Each function is proved to answer, for every state and all bytes, what crates/host/specs says, by way of the specs of
- * reader, writer, finder and join. A state that was not given out by these functions still gets an answer and touches nothing
+ * reader, writer, finder, join and plan. A state that was not given out by these functions still gets an answer and touches nothing
  * but the lent bytes.
  */
 #ifndef MELAGBOSUN_H
@@ -19,7 +19,7 @@
 extern "C" {
 #endif
 
-/* Why a shard, a tag, an offer or a join was refused. Unless another is named, the position is that where the record starts. */
+/* Why a shard, a tag, an offer, a join or a plan was refused. Unless another is named, the position is that where the record starts. */
 enum mdb_refusal {
     MDB_ENDS_EARLY = 1,      /* the input ends inside or before a record still due */
     MDB_TAG_LENGTH = 2,      /* the tag is not 32 bytes; position 0 */
@@ -37,8 +37,11 @@ enum mdb_refusal {
     MDB_OFFSET = 13,         /* footer: one of the three offsets is wrong */
     MDB_AFTER_END = 14,      /* a byte follows the end; position of that byte */
     MDB_BUFFER = 15,         /* writer: the buffer is shorter than the record; reader: the carry is shorter than MDB_CARRY, or the
-                                table than a row; join: the buffer is shorter than the result, position 0 */
+                                table than a row; join: the buffer is shorter than the result, position 0; plan: the table
+                                has fewer rows than are needed, position 0 */
     MDB_NOT_DUE = 16,        /* writer: this kind of record is not due now, or there is no such kind */
+    MDB_NO_FILE = 17,        /* plan: the shard has no file of that number; position 0 */
+    MDB_RANGE = 18,          /* plan: a is not below b, or b is past the file's end; position 0 */
     MDB_HAS_FOOTER = 30      /* join: one of the shards has a footer; position 0 */
 };
 
@@ -166,6 +169,20 @@ typedef struct {
     uint32_t number; /* enum mdb_refusal, else 0 */
 } mdb_joined;
 
+/* A piece to fetch: the chunks of a xorb from `start` up to but not including `end`. Of their bytes, unpacked, `skip` are passed
+ * over and the next `take` are wanted. */
+typedef struct {
+    uint64_t xorb[4];
+    uint32_t start, end;
+    uint32_t skip, take;
+} mdb_fetch_row;
+
+typedef struct {
+    uint64_t rows;   /* rows filled at the start of the table; 0: refused, and no row changed */
+    uint64_t at;     /* position of the refusal, else 0 */
+    uint32_t number; /* enum mdb_refusal, else 0 */
+} mdb_planned;
+
 /* The verdict on a whole shard. */
 mdb_verdict mdb_judge(const uint8_t *tag, size_t tag_length, const uint8_t *shard, size_t length);
 
@@ -179,6 +196,13 @@ mdb_found_file mdb_find_file(const uint8_t *tag, size_t tag_length, const uint8_
  * whatever grouping, those of one order give the same bytes, and a shard of 144 bytes changes nothing. */
 mdb_joined mdb_join(const uint8_t *tag, size_t tag_length, const uint8_t *first, size_t first_length,
                     const uint8_t *second, size_t second_length, uint8_t *buffer, size_t buffer_length);
+
+/* What to fetch for the bytes of a file from `a` up to but not including `b`: a row for each segment that shares at least one
+ * byte with this range, in file order. What is taken for the rows, one after the other, is the stretch asked for. `file` counts
+ * from 0; `length` counts the table's rows, and as many as the file has segments are always enough. No row behind those filled
+ * changes. Refused in this order: the shard's refusal, 17, 18, 15. */
+mdb_planned mdb_plan(const uint8_t *tag, size_t tag_length, const uint8_t *shard, size_t shard_length, uint32_t file, uint64_t a,
+                     uint64_t b, mdb_fetch_row *table, size_t length);
 
 /* A fresh reader. A tag that is not 32 bytes gives one that has refused with 2. */
 mdb_reader mdb_reader_new(const uint8_t *tag, size_t length);

@@ -102,22 +102,39 @@ fn segments(name: &'static str, count: u32) -> Input {
     let mut hashes = Hashes(2);
     let mut offers = vec![Offer::Header { footer_size: 0 }];
     for i in 0..count {
-        let mut hash = || hashes.next().unwrap_or_default();
-        offers.push(Offer::FileHead {
-            hash: hash(),
-            flags: 0,
-            entries: 1,
-        });
-        offers.push(Offer::Segment {
-            hash: hash(),
-            flags: 0,
-            bytes: 65_536,
-            start: ChunkIndex(i),
-            end: ChunkIndex(i + 1),
-        });
+        offers.push(head(&mut hashes, 1));
+        offers.push(segment(&mut hashes, i));
     }
     offers.extend([Offer::SectionEnd; 2]);
     Input::new(name, offers, 1)
+}
+
+fn head(hashes: &mut Hashes, entries: u32) -> Offer {
+    Offer::FileHead {
+        hash: hashes.next().unwrap_or_default(),
+        flags: 0,
+        entries,
+    }
+}
+
+fn segment(hashes: &mut Hashes, start: u32) -> Offer {
+    Offer::Segment {
+        hash: hashes.next().unwrap_or_default(),
+        flags: 0,
+        bytes: 65_536,
+        start: ChunkIndex(start),
+        end: ChunkIndex(start + 1),
+    }
+}
+
+/// One file of 300,000 segments.
+pub fn scan() -> Input {
+    let mut hashes = Hashes(3);
+    let count = 300_000;
+    let mut offers = vec![Offer::Header { footer_size: 0 }, head(&mut hashes, count)];
+    offers.extend((0..count).map(|i| segment(&mut hashes, i)));
+    offers.extend([Offer::SectionEnd; 2]);
+    Input::new("300,000 segments", offers, 1)
 }
 
 /// The shards that are joined, each with itself: as long as two of them together may be.

@@ -2,6 +2,7 @@
 //! an instruction counter.
 
 mod joining;
+mod planning;
 
 use bench::inputs::{chunks, empty, files, tag, Input};
 use bench::measured::{beside, print, Measured};
@@ -163,6 +164,7 @@ fn table(rounds: usize) {
     let rows: Vec<&str> = WAYS.iter().map(|way| way.name).collect();
     print("record", &columns, &rows, &all);
     joining::table(rounds);
+    planning::table(rounds);
 }
 
 fn count(key: &str, times: usize) -> Option<u64> {

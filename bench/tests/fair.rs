@@ -1,8 +1,9 @@
-//! The ordinary reader is a right one: the same records and verdicts as the proved reader, on generated inputs.
+//! The ordinary reader and the ordinary plan are right ones: the same records, verdicts and rows as the proved, on generated
+//! inputs.
 
-use bench::{fold, ordinary::Ordinary};
-use checks::{cases::random_case, generate::Rng};
-use melagbosun::Reader;
+use bench::{fold, ordinary::Ordinary, ordinary_plan};
+use checks::{cases::random_case, generate::Rng, stretch::Stretch};
+use melagbosun::{judge, plan_into, FetchRow, FileNumber, Reader};
 
 #[test]
 fn the_same_records_and_verdicts() {
@@ -26,4 +27,24 @@ fn the_same_records_and_verdicts() {
         assert_eq!((sums[0], &found), (sums[1], &wanted));
         assert_eq!(ordinary.verdict(), proved.verdict(), "{}", case.family);
     }
+}
+
+#[test]
+fn the_same_rows() {
+    let mut rng = Rng::new(3);
+    let mut planned = 0;
+    for number in 0..20_000 {
+        let stretch = Stretch::random(&mut rng, number);
+        let (tag, shard) = (&stretch.tag, &stretch.shard);
+        if judge(tag, shard).is_err() {
+            continue;
+        }
+        let range = stretch.a..stretch.b;
+        let [mut one, mut two] = [(); 2].map(|()| vec![FetchRow::default(); stretch.room]);
+        let rows = ordinary_plan::plan(shard, stretch.file, &range, &mut one);
+        let wanted = plan_into(tag, shard, FileNumber(stretch.file), range, &mut two);
+        assert_eq!((rows, one), (wanted.ok(), two));
+        planned += usize::from(rows.is_some());
+    }
+    assert!(planned > 4_000, "only {planned} were planned");
 }

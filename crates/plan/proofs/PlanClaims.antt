@@ -18,7 +18,7 @@ use Rattle.layout.specs.Layout.{Segment, FileBlock, Shard, joined}
 use Rattle.layout.specs.Scan.{Found, foundIn, IsAccepted}
 use Rattle.layout.proofs.Last.{tag-size, Spelling, spelling, tree-of}
 use Rattle.plan.specs.Plan.{Plan, fetch, refused, refusedWith, rowsFor, fileBytes, segmentsAt, segmentsIn, planFor, planBy, planOf, answerTo, tableTo}
-use Rattle.plan.specs.Claims.{Planned, Fetches, fetched, PlanClaim}
+use Rattle.plan.specs.Claims.{PlannedRows, Fetches, fetched, PlanClaim}
 use Rattle.plan.specs.declared.Row.{Row}
 use Rattle.plan.specs.declared.Planned.the-variants as planned
 use Rattle.plan.proofs.Tree.{in-bytes}
@@ -51,11 +51,11 @@ absent-from (suc n) (f ∷ fs) h = absent-from n fs (omega arith)
 -- ## Rows that are planned
 
 module _ (ss : List Segment) (a b room : ℕ) (rs : List Row) where
-  planned-to : planFor (some ss) a b room ≡ fetch rs → Planned ss a b room rs
+  planned-to : planFor (some ss) a b room ≡ fetch rs → PlannedRows ss a b room rs
   planned-to e = go (ltb a b) (leb b (fileBytes ss)) (leb (length (rowsFor a b ss)) room) refl refl refl e
     where
       go : (x y z : Bool) → ltb a b ≡ x → leb b (fileBytes ss) ≡ y → leb (length (rowsFor a b ss)) room ≡ z
-          → pick (x && y) (pick z (fetch (rowsFor a b ss)) (refusedWith 15)) (refusedWith 18) ≡ fetch rs → Planned ss a b room rs
+          → pick (x && y) (pick z (fetch (rowsFor a b ss)) (refusedWith 15)) (refusedWith 18) ≡ fetch rs → PlannedRows ss a b room rs
       go true true true u v w q =
           let r : rs ≡ rowsFor a b ss = cc in
           let l : a < b = ltb-true a b u in
@@ -69,7 +69,7 @@ module _ (ss : List Segment) (a b room : ℕ) (rs : List Row) where
 plan-fits : (ss : List Segment) (a b room : ℕ) → a < b → b ≤ fileBytes ss → length (rowsFor a b ss) ≤ room → planFor (some ss) a b room ≡ fetch (rowsFor a b ss)
 plan-fits ss a b room l i t = rw (lt-ltb a b l, le-leb b (fileBytes ss) i, le-leb (length (rowsFor a b ss)) room t)
 
-planned-from : (ss : List Segment) (a b room : ℕ) (rs : List Row) → Planned ss a b room rs → planFor (some ss) a b room ≡ fetch rs
+planned-from : (ss : List Segment) (a b room : ℕ) (rs : List Row) → PlannedRows ss a b room rs → planFor (some ss) a b room ≡ fetch rs
 planned-from ss a b room rs h = plan-fits ss a b room (h .range) (h .inside) (rw (h .are) at (h .fits)) ∙ ap fetch (sym (h .are))
 
 -- ## What a host has
@@ -78,6 +78,7 @@ planned-from ss a b room rs h = plan-fits ss a b room (h .range) (h .inside) (rw
 record RowsOf (o : Option (List Segment)) (a b room n : ℕ) : Type 0 where
   segments : List Segment
   found : o ≡ some segments
+  range : a < b
   inside : b ≤ fileBytes segments
   planned : planFor o a b room ≡ fetch (rowsFor a b segments)
   count : length (rowsFor a b segments) ≡ n
@@ -88,9 +89,9 @@ rows-of (some ss) a b room n e = go (planFor (some ss) a b room) refl e
   where
     go : (p : Plan) → planFor (some ss) a b room ≡ p → answerTo p ≡ planned.Rows n → RowsOf (some ss) a b room n
     go (fetch rs) q u =
-        let h : Planned ss a b room rs = planned-to ss a b room rs q in
+        let h : PlannedRows ss a b room rs = planned-to ss a b room rs q in
         let k : length rs ≡ n = cc in
-        record { segments = ss; found = refl; inside = h .inside; planned = q ∙ ap fetch (h .are); count = ap length (sym (h .are)) ∙ k }
+        record { segments = ss; found = refl; range = h .range; inside = h .inside; planned = q ∙ ap fetch (h .are); count = ap length (sym (h .are)) ∙ k }
     go (refused r) q u = let z : _≡_ {A = ℕ} 0 1 = cc in absurd (omega arith)
 
 module _ (tag bytes : List ℕ) (file a b n : ℕ) (table : List Row) (answers : answerTo (planOf tag bytes file a b (length table)) ≡ planned.Rows n) where
@@ -115,7 +116,9 @@ module _ (tag bytes : List ℕ) (file a b n : ℕ) (table : List Row) (answers :
         spells = o .spells;
         segments = r .segments;
         found = r .found;
+        range = r .range;
         inside = r .inside;
+        are = first;
         gets = λ store honest. ap (joined (fetched store)) first ∙ rows .bytes store a b (r .segments) honest;
       }
 

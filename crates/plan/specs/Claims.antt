@@ -66,7 +66,7 @@ pub record RowsClaim : Type 0 where
 -- ## Plans
 
 -- what is known of rows that are planned
-pub record Planned (segments : List Segment) (a b room : ℕ) (rows : List Row) : Type 0 where
+pub record PlannedRows (segments : List Segment) (a b room : ℕ) (rows : List Row) : Type 0 where
   pub range : a < b
   pub inside : b ≤ fileBytes segments
   pub fits : length rows ≤ room
@@ -79,7 +79,9 @@ pub record Fetches (tag bytes : List ℕ) (file a b n : ℕ) (table : List Row) 
   pub spells : Spells tag shard bytes
   pub segments : List Segment
   pub found : segmentsAt file (shard .files) ≡ some segments
+  pub range : a < b
   pub inside : b ≤ fileBytes segments
+  pub are : take n table ≡ rowsFor a b segments
   pub gets : (store : Store) → Honest store segments → joined (fetched store) (take n table) ≡ stretch store a b segments
 
 pub record PlanClaim : Type 0 where
@@ -90,7 +92,7 @@ pub record PlanClaim : Type 0 where
   -- there is no such file exactly if the number is not below that of the files
   pub absent : (file : ℕ) (files : List FileBlock) → segmentsAt file files ≡ none ↔ length files ≤ file
   -- rows are planned exactly if the range lies in the file and the table has room
-  pub planned-if : (segments : List Segment) (a b room : ℕ) (rows : List Row) → planFor (some segments) a b room ≡ fetch rows ↔ Planned segments a b room rows
+  pub planned-if : (segments : List Segment) (a b room : ℕ) (rows : List Row) → planFor (some segments) a b room ≡ fetch rows ↔ PlannedRows segments a b room rows
   -- a table of as many rows as the file has segments has room
   pub enough : (segments : List Segment) (a b room : ℕ) → a < b → b ≤ fileBytes segments → length segments ≤ room → planFor (some segments) a b room ≡ fetch (rowsFor a b segments)
   -- rows that are answered fetch the stretch
