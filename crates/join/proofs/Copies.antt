@@ -5,9 +5,9 @@ use Prim.Native.Nat.{ℕ, _+_, _-_, _≤_}
 use native.Mathlib.Omega.{arith}
 use lib.ListN.{length, take, drop, length-append, length-drop}
 use lib.Seq.{length-take-le}
-use Rattle.words.specs.Le.{puts}
+use Rattle.words.specs.Le.{puts, part}
 use Rattle.words.proofs.Stores.{puts-then}
-use Rattle.join.specs.Join.{part, Parted, joinedAt, joinedLength}
+use Rattle.join.specs.Join.{Parted, joinedAt, joinedLength}
 
 length-part : (from to : ℕ) (s : List ℕ) → from ≤ to → to ≤ length s → length (part from to s) ≡ to - from
 length-part from to s h k = length-take-le (to - from) (drop from s) (rw length-drop (omega arith))

@@ -7,13 +7,14 @@ use Prim.Native.Nat.{ℕ, _+_, _-_}
 use native.Mathlib.Omega.{arith}
 use lib.ListN.{length, take, drop, length-append}
 use lib.Seq.{take-at, drop-at, take-all}
+use Rattle.words.specs.Le.{part}
 use Rattle.words.proofs.Records.{length-words}
 use Rattle.layout.specs.Layout.{Shard, joined, fileRows, xorbRows, spellRows, xorbOffset, lengthOf, footerSize, bytesOf}
 use Rattle.layout.proofs.ShardForth.{length-files, length-of}
 use Rattle.layout.proofs.Theorem.{length-rows}
 use Rattle.layout.proofs.Lists.{joined-append, spell-append}
 use Rattle.layout.proofs.Last.{Spelling}
-use Rattle.join.specs.Join.{part, joinedAt, joinedBytes}
+use Rattle.join.specs.Join.{joinedAt, joinedBytes}
 use Rattle.join.specs.Claims.{joinTree}
 use Rattle.join.proofs.Spelled.{headBytes, fileBytes, endBytes, xorbBytes, inOrder, bytes-are}
 

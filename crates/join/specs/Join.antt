@@ -5,7 +5,7 @@ use mathlib.Core.Bool.{Bool, _||_, not}
 use lib.Dec.{eqb, leb}
 use lib.ListN.{length, take, drop}
 use Rattle.words.specs.Checks.{pick, fine, _unless_then_}
-use Rattle.words.specs.Le.{leAt}
+use Rattle.words.specs.Le.{leAt, part}
 use Rattle.rules.specs.Rules.{limit, same31, start}
 use Rattle.rules.specs.Verdicts.{refusalAt}
 use Rattle.rules.specs.declared.Summary.{Summary}
@@ -17,10 +17,6 @@ use Rattle.join.specs.declared.Joined.{Joined}
 use Rattle.join.specs.declared.Joined.the-variants.{Wrote, Refused}
 
 -- ## The joined bytes
-
--- the bytes from one position up to another
-abbrev pub part : ℕ → ℕ → List ℕ → List ℕ
-part from to s = take (to - from) (drop from s)
 
 -- Two shards without footer, of n and m bytes, whose xorb offsets are x and y. The parts that are copied, in their order:
 --

@@ -16,7 +16,7 @@ use Rattle.rules.specs.declared.Verdict.the-variants as verdict
 use Rattle.layout.specs.Layout.{Segment}
 use Rattle.layout.specs.Scan.{foundIn, IsAccepted}
 use Rattle.plan.specs.Plan.{Plan, fetch, refused, rowsFor, fileBytes, segmentsIn, planFor, planBy, planOf, answerTo, tableTo}
-use Rattle.plan.specs.Walk.{segmentsFrom, Inside, measureOf, SegmentsThere, NoneThere, Seeks, refusedDraft, Drafts}
+use Rattle.plan.specs.Walk.{segmentsFrom, Within, measureOf, SegmentsThere, NoneThere, Seeks, refusedDraft, Drafts}
 use Rattle.plan.specs.declared.Row.{Row}
 use Rattle.plan.specs.declared.Planned.the-variants as planned
 use Rattle.plan.specs.declared.rows.Cursor.{Cursor}
@@ -36,7 +36,7 @@ module _ (tag bytes : List ℕ) (file a b room : ℕ) where
   unfolding rowsFor segmentsFrom
   drafts-no r d e q = subst (Drafts tag bytes file a b room) (sym q) (record {
     answers = sym (ap answerTo e);
-    inside = omega arith;
+    within = omega arith;
     counts = refl;
     fits = omega arith;
     fills = λ table. ap (λ (p : Plan). tableTo p table) e;
@@ -69,8 +69,8 @@ module _ (tag bytes : List ℕ) (file a b room : ℕ) where
     abbrev cursor : Cursor
     cursor = record { at = at; a = a; b = b; left = n }
 
-    pub segments-inside : Inside bytes at n
-    segments-inside = there .inside
+    pub segments-within : Within bytes at n
+    segments-within = there .within
 
     plan-is : planOf tag bytes file a b room ≡ planFor (some segments) a b room
     unfolding planOf
@@ -100,7 +100,7 @@ module _ (tag bytes : List ℕ) (file a b room : ℕ) where
           let z : planOf tag bytes file a b room ≡ fetch rows = plan-is ∙ rw (lt-ltb a b l, inside p, le-leb (length rows) room (omega (arith, count))) in
           record {
             answers = ap planned.Rows count ∙ sym (ap answerTo z);
-            inside = there .inside;
+            within = there .within;
             counts = count;
             fits = r;
             fills = λ table. ap (λ (y : Plan). tableTo y table) z ∙ ap (λ (i : ℕ). rows ++ drop i table) (sym count);

@@ -17,7 +17,7 @@ use Rattle.plan.specs.declared.Row.{Row}
 use Rattle.plan.specs.declared.rows.Share.{Share}
 use Rattle.plan.specs.declared.rows.Cursor.{Cursor}
 use Rattle.plan.specs.declared.rows.Measure.{Measure}
-use Rattle.plan.proofs.Steps.{rows-step}
+use Rattle.plan.proofs.Steps.{rowBy, rows-step}
 
 less-min : (x n : ℕ) → x - min x n ≡ x - n
 less-min x n = omega arith
@@ -36,26 +36,23 @@ measureFrom bytes rows at a b left = record { rows = rows + length (rowsFrom byt
 sub-sub : (b n f : ℕ) → b - n - f ≡ b - (n + f)
 sub-sub b n f = omega arith
 
-abbrev rowAt : Words → Share → Row
-rowAt w s = record { xorb = w .hash; start = record { 0 = w .c }; end = record { 0 = w .d }; skip = s .skip; take = s .take }
-
 -- ## One segment more
 
 module _ (bytes : List ℕ) (at a b left : ℕ) (w : Words) (s : Share) (read : w ≡ wordsAt bytes at) (share : s ≡ shareOf a b (w .b)) (more : 0 < left) where
   abbrev rest : List Row
   rest = rowsFrom bytes (at + 48) (s .a) (s .b) (left - 1)
 
-  turn : rowsFrom bytes at a b left ≡ pick (ltb 0 (s .take)) (rowAt w s ∷ rest) rest
+  turn : rowsFrom bytes at a b left ≡ pick (ltb 0 (s .take)) (rowBy (segmentOf w) s ∷ rest) rest
   unfolding segmentsFrom
   turn = go left more
     where
-      go : (n : ℕ) → 0 < n → rowsFrom bytes at a b n ≡ pick (ltb 0 (s .take)) (rowAt w s ∷ rowsFrom bytes (at + 48) (s .a) (s .b) (n - 1)) (rowsFrom bytes (at + 48) (s .a) (s .b) (n - 1))
+      go : (n : ℕ) → 0 < n → rowsFrom bytes at a b n ≡ pick (ltb 0 (s .take)) (rowBy (segmentOf w) s ∷ rowsFrom bytes (at + 48) (s .a) (s .b) (n - 1)) (rowsFrom bytes (at + 48) (s .a) (s .b) (n - 1))
       go zero h = absurd (omega arith)
       go (suc n) h =
           let e : suc n - 1 ≡ n = omega arith in
           rw (e, share, read) (rows-step a b (segmentOf (wordsAt bytes at)) (segmentsFrom bytes (at + 48) n))
 
-  pub turn-takes : 0 < s .take → rowsFrom bytes at a b left ≡ rowAt w s ∷ rest
+  pub turn-takes : 0 < s .take → rowsFrom bytes at a b left ≡ rowBy (segmentOf w) s ∷ rest
   turn-takes t = turn ∙ rw (lt-ltb 0 (s .take) t)
 
   pub turn-passes : s .take ≤ 0 → rowsFrom bytes at a b left ≡ rest

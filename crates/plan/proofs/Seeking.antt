@@ -26,7 +26,7 @@ use Rattle.finder.proofs.Sections.{filesThen, file-section}
 use Rattle.finder.proofs.FileHeads.{Head, head-room, at-bookend, at-head, next-due}
 use Rattle.finder.proofs.Begin.{Accepted, accepted}
 use Rattle.plan.specs.Plan.{segmentOf, segmentsAt, segmentsIn}
-use Rattle.plan.specs.Walk.{segmentsFrom, Inside, SegmentsThere, NoneThere}
+use Rattle.plan.specs.Walk.{segmentsFrom, Within, SegmentsThere, NoneThere}
 use Rattle.plan.proofs.Tree.{in-bytes}
 
 -- what is still to come at a position, with so many files to pass: files, a bookend, and the rest
@@ -44,16 +44,16 @@ one-passed : (n : ℕ) → 0 < n → (f : FileBlock) (fs : List FileBlock) → s
 one-passed zero z f fs = absurd (omega arith)
 one-passed (suc n) z f fs = let k : suc n - 1 ≡ n = omega arith in rw k
 
--- segments that stand as rows are read there, and stand inside
+-- segments that stand as rows are read there, and stand within the bytes
 segments-read : (bytes : List ℕ) (at : ℕ) (ss : List Segment) (others : List Row) → Stand bytes at (map segmentRow ss ++ others) → segmentsFrom bytes at (length ss) ≡ ss
 unfolding segmentsFrom
 segments-read bytes at [] others h = refl
 segments-read bytes at (s ∷ ss) others (w, l, h) =
     ap (λ (v : Words). segmentOf v ∷ segmentsFrom bytes (at + 48) (length ss)) w ∙ ap (λ (l : List Segment). s ∷ l) (segments-read bytes (at + 48) ss others h)
 
-segments-inside : (bytes : List ℕ) (at : ℕ) (ss : List Segment) (others : List Row) → at ≤ length bytes → Stand bytes at (map segmentRow ss ++ others) → Inside bytes at (length ss)
-segments-inside bytes at [] others r h = omega arith
-segments-inside bytes at (s ∷ ss) others r (w, l, h) = omega (arith, segments-inside bytes (at + 48) ss others l h)
+segments-within : (bytes : List ℕ) (at : ℕ) (ss : List Segment) (others : List Row) → at ≤ length bytes → Stand bytes at (map segmentRow ss ++ others) → Within bytes at (length ss)
+segments-within bytes at [] others r h = omega arith
+segments-within bytes at (s ∷ ss) others r (w, l, h) = omega (arith, segments-within bytes (at + 48) ss others l h)
 
 module _ (tag bytes : List ℕ) (file at left : ℕ) (c : HeadsLeft tag bytes file at left) where
   -- a record is there
@@ -86,7 +86,7 @@ module _ (tag bytes : List ℕ) (file at left : ℕ) (c : HeadsLeft tag bytes fi
           record {
             accepted = c .accepted;
             found = says ∙ ap (λ (m : ℕ). segmentsAt m (head .file ∷ head .others)) z ∙ ap some (sym (ap (segmentsFrom bytes (at + 48)) n ∙ segments-read bytes (at + 48) ss others t));
-            inside = rw n (segments-inside bytes (at + 48) ss others heads-room t);
+            within = rw n (segments-within bytes (at + 48) ss others heads-room t);
           }
 
       -- another one is sought: the next head is behind its records

@@ -19,8 +19,8 @@ use Rattle.plan.specs.declared.rows.Share.{Share}
 abbrev extent : ℕ → Segment → Extent
 extent n s = record { segment = s; before = n }
 
-abbrev rowsFrom : ℕ → ℕ → ℕ → List Segment → List Row
-rowsFrom a b n ss = map (rowFor a b) (onlyIf (shares a b) (extentsFrom n ss))
+abbrev rowsBehind : ℕ → ℕ → ℕ → List Segment → List Row
+rowsBehind a b n ss = map (rowFor a b) (onlyIf (shares a b) (extentsFrom n ss))
 
 -- ## Moving
 
@@ -49,58 +49,59 @@ module _ (a b n : ℕ) where
       let y : min b (n + k + s .bytes) ≡ n + min (b - n) (k + s .bytes) = omega arith in
       rw (x, y, apart n (max (a - n) k) (min (b - n) (k + s .bytes)), apart n k (max (a - n) k))
 
-  moved : (k : ℕ) (ss : List Segment) → rowsFrom a b (n + k) ss ≡ rowsFrom (a - n) (b - n) k ss
+  moved : (k : ℕ) (ss : List Segment) → rowsBehind a b (n + k) ss ≡ rowsBehind (a - n) (b - n) k ss
   moved k [] = refl
-  moved k (s ∷ ss) = go (shares a b (extent (n + k) s)) refl (ap (λ (m : ℕ). rowsFrom a b m ss) e ∙ moved (k + s .bytes) ss)
+  moved k (s ∷ ss) = go (shares a b (extent (n + k) s)) refl (ap (λ (m : ℕ). rowsBehind a b m ss) e ∙ moved (k + s .bytes) ss)
     where
       e : n + k + s .bytes ≡ n + (k + s .bytes)
       e = omega arith
 
-      go : (t : Bool) → shares a b (extent (n + k) s) ≡ t → rowsFrom a b (n + k + s .bytes) ss ≡ rowsFrom (a - n) (b - n) (k + s .bytes) ss
-          → rowsFrom a b (n + k) (s ∷ ss) ≡ rowsFrom (a - n) (b - n) k (s ∷ ss)
-      go true t ih = rw (t, sym (moved-shares k s) ∙ t) (ap (λ (r : Row). r ∷ rowsFrom a b (n + k + s .bytes) ss) (moved-row k s t) ∙ ap (λ (l : List Row). rowFor (a - n) (b - n) (extent k s) ∷ l) ih)
+      go : (t : Bool) → shares a b (extent (n + k) s) ≡ t → rowsBehind a b (n + k + s .bytes) ss ≡ rowsBehind (a - n) (b - n) (k + s .bytes) ss
+          → rowsBehind a b (n + k) (s ∷ ss) ≡ rowsBehind (a - n) (b - n) k (s ∷ ss)
+      go true t ih = rw (t, sym (moved-shares k s) ∙ t) (ap (λ (r : Row). r ∷ rowsBehind a b (n + k + s .bytes) ss) (moved-row k s t) ∙ ap (λ (l : List Row). rowFor (a - n) (b - n) (extent k s) ∷ l) ih)
       go false t ih = rw (t, sym (moved-shares k s) ∙ t) ih
 
 -- ## One segment
 
-module _ (a b : ℕ) (s : Segment) (ss : List Segment) where
+-- a row by what a segment shares with the range
+abbrev pub rowBy : Segment → Share → Row
+rowBy s share = record { xorb = s .xorb; start = record { 0 = s .start }; end = record { 0 = s .end }; skip = share .skip; take = share .take }
+
+module _ (a b : ℕ) (s : Segment) where
   abbrev pub share : Share
   share = shareOf a b (s .bytes)
-
-  -- its row, by what it shares with the range
-  abbrev pub rowBy : Row
-  rowBy = record { xorb = s .xorb; start = record { 0 = s .start }; end = record { 0 = s .end }; skip = share .skip; take = share .take }
 
   first-shares : shares a b (extent 0 s) ≡ ltb 0 (share .take)
   first-shares = same-test (from a (extent 0 s)) (upTo b (extent 0 s)) 0 (share .take) (λ h. omega arith) (λ h. omega arith)
 
-  first-row : shares a b (extent 0 s) ≡ true → rowFor a b (extent 0 s) ≡ rowBy
+  first-row : shares a b (extent 0 s) ≡ true → rowFor a b (extent 0 s) ≡ rowBy s share
   first-row t =
       let h : max a 0 < min b (0 + s .bytes) = ltb-true (max a 0) (min b (0 + s .bytes)) t in
       let x : max a 0 ≡ min a (s .bytes) = omega arith in
       let y : 0 + s .bytes ≡ s .bytes = omega arith in
       rw (x, y, sub-zero)
 
-  -- the rows of those behind it
-  abbrev pub others : List Row
-  others = rowsFor (a - s .bytes) (b - s .bytes) ss
+  module _ (ss : List Segment) where
+    -- the rows of those behind it
+    abbrev pub others : List Row
+    others = rowsFor (a - s .bytes) (b - s .bytes) ss
 
-  others-are : rowsFrom a b (0 + s .bytes) ss ≡ others
-  unfolding rowsFor
-  others-are = let e : 0 + s .bytes ≡ s .bytes + 0 = omega arith in ap (λ (m : ℕ). rowsFrom a b m ss) e ∙ moved a b (s .bytes) 0 ss
+    others-are : rowsBehind a b (0 + s .bytes) ss ≡ others
+    unfolding rowsFor
+    others-are = let e : 0 + s .bytes ≡ s .bytes + 0 = omega arith in ap (λ (m : ℕ). rowsBehind a b m ss) e ∙ moved a b (s .bytes) 0 ss
 
-  pub rows-step : rowsFor a b (s ∷ ss) ≡ pick (ltb 0 (share .take)) (rowBy ∷ others) others
-  unfolding rowsFor
-  rows-step = go (shares a b (extent 0 s)) refl
-    where
-      go : (t : Bool) → shares a b (extent 0 s) ≡ t → rowsFrom a b 0 (s ∷ ss) ≡ pick (ltb 0 (share .take)) (rowBy ∷ others) others
-      go true t = rw (t, sym first-shares ∙ t) (ap (λ (r : Row). r ∷ rowsFrom a b (0 + s .bytes) ss) (first-row t) ∙ ap (λ (l : List Row). rowBy ∷ l) others-are)
-      go false t = rw (t, sym first-shares ∙ t) others-are
+    pub rows-step : rowsFor a b (s ∷ ss) ≡ pick (ltb 0 (share .take)) (rowBy s share ∷ others) others
+    unfolding rowsFor
+    rows-step = go (shares a b (extent 0 s)) refl
+      where
+        go : (t : Bool) → shares a b (extent 0 s) ≡ t → rowsBehind a b 0 (s ∷ ss) ≡ pick (ltb 0 (share .take)) (rowBy s share ∷ others) others
+        go true t = rw (t, sym first-shares ∙ t) (ap (λ (r : Row). r ∷ rowsBehind a b (0 + s .bytes) ss) (first-row t) ∙ ap (λ (l : List Row). rowBy s share ∷ l) others-are)
+        go false t = rw (t, sym first-shares ∙ t) others-are
 
-  -- what holds of the rows where it has one, and where it has none, holds of them
-  pub by-step : (P : List Row → Type 0) → (0 < share .take → P (rowBy ∷ others)) → (share .take ≤ 0 → P others) → P (rowsFor a b (s ∷ ss))
-  by-step P f g = subst P (sym rows-step) (go (ltb 0 (share .take)) refl)
-    where
-      go : (t : Bool) → ltb 0 (share .take) ≡ t → P (pick t (rowBy ∷ others) others)
-      go true t = f (ltb-true 0 (share .take) t)
-      go false t = g (ltb-false 0 (share .take) t)
+    -- what holds of the rows where it has one, and where it has none, holds of them
+    pub by-step : (P : List Row → Type 0) → (0 < share .take → P (rowBy s share ∷ others)) → (share .take ≤ 0 → P others) → P (rowsFor a b (s ∷ ss))
+    by-step P f g = subst P (sym rows-step) (go (ltb 0 (share .take)) refl)
+      where
+        go : (t : Bool) → ltb 0 (share .take) ≡ t → P (pick t (rowBy s share ∷ others) others)
+        go true t = f (ltb-true 0 (share .take) t)
+        go false t = g (ltb-false 0 (share .take) t)

@@ -1,6 +1,6 @@
 -- EXAMPLES, by computation: a file of three segments of 100, 0 and 50 bytes, and one of none.
 use mathlib.Core.Path.{_≡_, refl}
-use mathlib.Core.Option.{none}
+use mathlib.Core.Option.{none, some}
 use mathlib.Core.List.{List, [], _∷_}
 use Prim.Native.Nat.{ℕ}
 use lib.ListN.{replicate}
@@ -35,8 +35,10 @@ pub record Examples : Type 0 where
   onwards : of 0 100 101 9 ≡ fetch (row 13 3 7 0 1 ∷ [])
   -- inside one segment
   inside : of 0 120 130 1 ≡ fetch (row 13 3 7 20 10 ∷ [])
+  -- beyond 32 bits
+  far : planFor (some (segment 11 0 1 4294967295 ∷ segment 12 0 1 4294967295 ∷ [])) 4294967296 4294967298 1 ≡ fetch (row 12 0 1 1 2 ∷ [])
   -- refusals, and their order
-  no-file : of 2 0 1 9 ≡ refusedWith 17
+  no-file : of 2 5 5 0 ≡ refusedWith 17
   no-bytes : of 0 5 5 0 ≡ refusedWith 18
   backwards : of 0 6 5 9 ≡ refusedWith 18
   past : of 0 149 151 0 ≡ refusedWith 18
@@ -51,6 +53,7 @@ examples = record {
   up-to = refl;
   onwards = refl;
   inside = refl;
+  far = refl;
   no-file = refl;
   no-bytes = refl;
   backwards = refl;

@@ -43,18 +43,18 @@ abbrev pub extentsFrom : ℕ → List Segment → List Extent
 extentsFrom n [] = []
 extentsFrom n (s ∷ ss) = record { segment = s; before = n } ∷ extentsFrom (n + s .bytes) ss
 
--- the byte of the file behind it
+-- the byte of the file behind the segment
 abbrev pub behind : Extent → ℕ
 behind e = e .before + e .segment .bytes
 
--- the first byte of the file that it and the range may share, and the byte behind the last
+-- the first byte of the file that the segment and the range may share, and the byte behind the last
 abbrev pub from : ℕ → Extent → ℕ
 from a e = max a (e .before)
 
 abbrev pub upTo : ℕ → Extent → ℕ
 upTo b e = min b (behind e)
 
--- it shares at least one byte with the range
+-- the segment shares at least one byte with the range
 abbrev pub shares : ℕ → ℕ → Extent → Bool
 shares a b e = ltb (from a e) (upTo b e)
 
@@ -92,7 +92,7 @@ segmentsAt (suc n) (f ∷ fs) = segmentsAt n fs
 abbrev pub segmentOf : Words → Segment
 segmentOf w = record { xorb = w .hash; bytes = w .b; start = w .c; end = w .d }
 
--- the segments in front of these records, up to the first that is none
+-- the segments in front of these records, up to the first record that is no segment
 unfoldable pub leading : List Record → List Segment
 leading [] = []
 leading (r ∷ rs) = pick (sameKind (r .kind) kind.Segment) (segmentOf (r .words) ∷ leading rs) []
@@ -118,6 +118,7 @@ pub data Plan : Type 0 where
 abbrev pub refusedWith : ℕ → Plan
 refusedWith number = refused (refusalAt number start)
 
+-- for the segments of a file, if there is one; a and b; and how many rows the table has
 abbrev pub planFor : Option (List Segment) → ℕ → ℕ → ℕ → Plan
 -- no such file
 planFor none a b room = refusedWith 17
@@ -128,11 +129,12 @@ planFor (some segments) a b room =
     refusedWith 15 unless leb (length (rowsFor a b segments)) room then
     fetch (rowsFor a b segments)
 
--- the shard's own refusal comes first
+-- the shard's own refusal comes before the plan's
 abbrev pub planBy : Verdict → Plan → Plan
 planBy (verdict.Accepted summary) plan = plan
 planBy (verdict.Refused refusal) plan = refused refusal
 
+-- by the tag, the shard, the file's number, a, b, and how many rows the table has
 unfoldable pub planOf : List ℕ → List ℕ → ℕ → ℕ → ℕ → ℕ → Plan
 planOf tag shard file a b room = planBy (foundIn tag shard .verdict) (planFor (segmentsIn file (foundIn tag shard .records)) a b room)
 

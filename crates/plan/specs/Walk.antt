@@ -33,9 +33,9 @@ unfoldable pub segmentsFrom : List ℕ → ℕ → ℕ → List Segment
 segmentsFrom bytes at zero = []
 segmentsFrom bytes at (suc n) = segmentOf (wordsAt bytes at) ∷ segmentsFrom bytes (at + 48) n
 
--- they stand inside the bytes
-abbrev pub Inside : List ℕ → ℕ → ℕ → Type 0
-Inside bytes at n = at + 48 * n ≤ length bytes
+-- they stand within the bytes
+abbrev pub Within : List ℕ → ℕ → ℕ → Type 0
+Within bytes at n = at + 48 * n ≤ length bytes
 
 abbrev pub segmentsLeft : List ℕ → Cursor → List Segment
 segmentsLeft bytes c = segmentsFrom bytes (c .at) (c .left)
@@ -50,7 +50,7 @@ measureOf bytes c = record { rows = length (rowsLeft bytes c); past = c .b - fil
 -- the first of the rows that are left, and where the others are left
 pub record Gives (bytes : List ℕ) (c : Cursor) (n : NextRow) : Type 0 where
   pub rows : rowsLeft bytes c ≡ n .row ∷ rowsLeft bytes (n .cursor)
-  pub inside : Inside bytes (n .cursor .at) (n .cursor .left)
+  pub within : Within bytes (n .cursor .at) (n .cursor .left)
 
 -- ## A file by its number
 
@@ -58,7 +58,7 @@ pub record Gives (bytes : List ℕ) (c : Cursor) (n : NextRow) : Type 0 where
 pub record SegmentsThere (tag bytes : List ℕ) (file at n : ℕ) : Type 0 where
   pub accepted : IsAccepted (foundIn tag bytes .verdict)
   pub found : segmentsIn file (foundIn tag bytes .records) ≡ some (segmentsFrom bytes at n)
-  pub inside : Inside bytes at n
+  pub within : Within bytes at n
 
 pub record NoneThere (tag bytes : List ℕ) (file : ℕ) : Type 0 where
   pub accepted : IsAccepted (foundIn tag bytes .verdict)
@@ -71,13 +71,13 @@ Seeks tag bytes file (sought.Refused refusal) = foundIn tag bytes .verdict ≡ v
 
 -- ## The draft
 
--- no row is left where it begins
+-- nothing is to be filled
 abbrev pub refusedDraft : Refusal → Draft
 refusedDraft refusal = record { count = 0; cursor = record { at = 0; a = 0; b = 0; left = 0 }; answer = planned.Refused refusal }
 
 pub record Drafts (tag bytes : List ℕ) (file a b room : ℕ) (d : Draft) : Type 0 where
   pub answers : d .answer ≡ answerTo (planOf tag bytes file a b room)
-  pub inside : Inside bytes (d .cursor .at) (d .cursor .left)
+  pub within : Within bytes (d .cursor .at) (d .cursor .left)
   -- so many rows are left where it begins, and they fit
   pub counts : d .count ≡ length (rowsLeft bytes (d .cursor))
   pub fits : d .count ≤ room

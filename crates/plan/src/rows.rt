@@ -5,7 +5,7 @@ use words::Words;
 ghost use mathlib.Core.Path.{_≡_};
 ghost use Prim.Native.Nat.{_<_, min};
 ghost use lib.ListN.{length};
-ghost use Rattle.plan.specs.Walk.{shareOf, Inside, rowsLeft, measureOf, Gives};
+ghost use Rattle.plan.specs.Walk.{shareOf, Within, rowsLeft, measureOf, Gives};
 
 // What a segment and the range share, and the range counted from the byte behind the segment.
 pub struct Share {
@@ -55,7 +55,7 @@ fn shared(a: u64, b: u64, n: u32) -> Share
 
 // The walk ends with the range: behind it no segment has a row.
 pub fn measured(shard: &[u8], c: Cursor) -> Measure
-    requires { ⌜ Inside (now shard) (c .at) (c .left) ⌝ }
+    requires { ⌜ Within (now shard) (c .at) (c .left) ⌝ }
     ensures { λ r. ⌜ r ≡ measureOf (now (shard .entry)) c ⌝ }
 {
     let mut at = c.at;
@@ -82,7 +82,7 @@ pub fn measured(shard: &[u8], c: Cursor) -> Measure
 
 // The first of the rows that are left.
 pub fn next_row(shard: &[u8], c: Cursor) -> NextRow
-    requires { ⌜ Inside (now shard) (c .at) (c .left) × (0 < length (rowsLeft (now shard) c)) ⌝ }
+    requires { ⌜ Within (now shard) (c .at) (c .left) × (0 < length (rowsLeft (now shard) c)) ⌝ }
     ensures { λ r. ⌜ Gives (now (shard .entry)) c r ⌝ }
 {
     let mut at = c.at;

@@ -1,8 +1,8 @@
--- Little-endian numbers of any width, and stores into a list.
-use Prim.Native.Nat.{ℕ, zero, suc, _+_, _*_, _/_, _%_, _<_}
+-- Little-endian numbers of any width, parts of a list, and stores into one.
+use Prim.Native.Nat.{ℕ, zero, suc, _+_, _-_, _*_, _/_, _%_, _<_}
 use mathlib.Core.List.{List, [], _∷_}
 use mathlib.Core.Bool.{Bool, true, _&&_}
-use lib.ListN.{getD, set}
+use lib.ListN.{getD, set, take, drop}
 use lib.Dec.{eqb}
 
 -- all are bytes
@@ -23,6 +23,10 @@ leNum (b ∷ bs) = b + 256 * leNum bs
 unfoldable pub spell : ℕ → ℕ → List ℕ
 spell zero x = []
 spell (suc w) x = x % 256 ∷ spell w (x / 256)
+
+-- the bytes from one position up to but not including another
+abbrev pub part : ℕ → ℕ → List ℕ → List ℕ
+part from to s = take (to - from) (drop from s)
 
 -- vs stored element by element from index i; what would stand past the end is dropped
 unfoldable pub puts : List ℕ → ℕ → List ℕ → List ℕ

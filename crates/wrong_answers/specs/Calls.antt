@@ -20,16 +20,18 @@ use Rattle.writer.specs.Write.{bytesOf, answerOf, writtenOf, bufferOf}
 use Rattle.finder.specs.Find.{chunkIn, chunkFound, fileIn, fileFound}
 use Rattle.join.specs.Join as join
 use Rattle.join.specs.Join.{joinedAt, joinedBytes, joinFault, answerFor, joinOf}
+use Rattle.plan.specs.Plan.{rowsFor, leading, segmentsIn, planOf, answerTo, tableTo}
 use Rattle.host.specs.Boundary.{readerIn, readerOut, stepOut, readOut, verdictOut, writerIn, writerOut, writtenOut, writtenFor, bufferFor}
 use Rattle.host.specs.Founds.{chunkOut, fileOut}
 use Rattle.host.specs.Joins.{joinedOut}
+use Rattle.host.specs.Plans.{plannedOut}
 use Rattle.host.specs.declared.ReaderState.{ReaderState}
 use Rattle.host.specs.declared.ReadState.{ReadState}
 use Rattle.host.specs.declared.StepState.{StepState}
 use Rattle.host.specs.declared.WriterState.{WriterState}
 use Rattle.wrong_answers.specs.Wrong.{Wrong, _not_by_, Refuted, refuted}
-use Rattle.wrong_answers.specs.Told.{number, numbers}
-use Rattle.wrong_answers.specs.Inputs.{words, other, atEnd, atSegment, atFooter, tagShort, bare, writer, placeWith, offered, zeros, goodSegment, empty, late, chunks, files, oneOfEach}
+use Rattle.wrong_answers.specs.Told.{number, numbers, rowsTold}
+use Rattle.wrong_answers.specs.Inputs.{words, other, atEnd, atSegment, atFooter, tagShort, bare, writer, placeWith, offered, lentRow, zeros, goodSegment, empty, late, chunks, files, oneOfEach, threeSegments}
 
 -- a reader that waits for a segment, as it was given out
 abbrev waiting : ReaderState
@@ -108,8 +110,17 @@ wrongs =
     ∷ (joinedOut (joinOf tag empty late 145) .wrote not 145 by number)
     -- the buffer left as it was
     ∷ (join.bufferOf tag empty empty (zeros 144) not zeros 144 by numbers)
+    -- ## `mdb_plan`
+    -- the first file, whichever is asked for
+    ∷ (plannedOut (answerTo (planOf tag threeSegments 1 0 5 2)) .number not 0 by number)
+    -- a and b exchanged
+    ∷ (plannedOut (answerTo (planOf tag threeSegments 0 1 4 2)) .rows not plannedOut (answerTo (planOf tag threeSegments 0 4 1 2)) .rows by number)
+    -- a refused plan said to have filled the table
+    ∷ (plannedOut (answerTo (planOf tag threeSegments 0 1 4 1)) .rows not 1 by number)
+    -- the table left as it was
+    ∷ (tableTo (planOf tag threeSegments 0 3 5 1) (lentRow ∷ []) not lentRow ∷ [] by rowsTold)
     ∷ []
 
 pub calls-refuted : Refuted wrongs
-unfolding stream.fresh stepOf stream.verdictOf callFor readWith readFor reads puts write.fresh wordsOf bytesOf answerOf writtenOf bufferOf write.verdictOf chunkFound chunkIn fileFound fileIn joinedAt joinedBytes joinFault answerFor joinOf join.bufferOf lastPlace foundIn scan run push fill verdictAt faultOf kindOf recordOf nextOf held leAt zerosAt spell spellHash spellWords spellFooter
+unfolding stream.fresh stepOf stream.verdictOf callFor readWith readFor reads puts write.fresh wordsOf bytesOf answerOf writtenOf bufferOf write.verdictOf chunkFound chunkIn fileFound fileIn joinedAt joinedBytes joinFault answerFor joinOf join.bufferOf rowsFor leading segmentsIn planOf lastPlace foundIn scan run push fill verdictAt faultOf kindOf recordOf nextOf held leAt zerosAt spell spellHash spellWords spellFooter
 calls-refuted = refuted wrongs refl

@@ -22,9 +22,11 @@ use Rattle.finder.specs.declared.FoundChunk.the-variants as chunk
 use Rattle.finder.specs.declared.FoundFile.{FoundFile}
 use Rattle.finder.specs.declared.FoundFile.the-variants as file
 use Rattle.join.specs.declared.Joined.the-variants as joined
+use Rattle.plan.specs.declared.Planned.the-variants as planned
 use Rattle.host.specs.Boundary.{recordOut, offerIn, verdictOut, readerIn, readerOut, stepOut, readOut, writerIn, writerOut, writtenOut, writtenFor, bufferFor}
 use Rattle.host.specs.Founds.{chunkOut, fileOut}
 use Rattle.host.specs.Joins.{joinedOut}
+use Rattle.host.specs.Plans.{plannedOut}
 use Rattle.wrong_answers.specs.Wrong.{Wrong, _not_by_, Refuted, refuted}
 use Rattle.wrong_answers.specs.Told.{number, numbers, dueTold, answerTold, fieldsTold}
 use Rattle.wrong_answers.specs.Inputs.{words, atEnd, atSegment, atFooter, bare, writer, placeWith, offered, zeros}
@@ -122,6 +124,15 @@ wrongs =
     ∷ (joinedOut (joined.Refused (refusalAt 9 start)) .number not 0 by number)
     -- the bytes written for a position
     ∷ (joinedOut (joined.Wrote 240) .at not 240 by number)
+    -- ## `planned_out`
+    -- the number of rows lost
+    ∷ (plannedOut (planned.Rows 2) .rows not 0 by number)
+    -- the position of a refusal for the number of rows
+    ∷ (plannedOut (planned.Refused (refusalAt 14 atEnd)) .rows not 144 by number)
+    -- its position lost
+    ∷ (plannedOut (planned.Refused (refusalAt 14 atEnd)) .at not 0 by number)
+    -- its number lost
+    ∷ (plannedOut (planned.Refused (refusalAt 17 start)) .number not 0 by number)
     ∷ []
 
 pub host-refuted : Refuted wrongs

@@ -16,6 +16,7 @@ use Rattle.beside.specs.declared.Bare.{Bare}
 use Rattle.writer.specs.declared.Writer.{Writer}
 use Rattle.writer.specs.declared.Offer.{Offer}
 use Rattle.writer.specs.declared.Fields.{Fields}
+use Rattle.plan.specs.declared.Row.{Row}
 use Rattle.host.specs.declared.OfferState.{OfferState}
 use Rattle.host.specs.declared.PlaceState.{PlaceState}
 
@@ -92,6 +93,13 @@ placeWith code left = record {
 abbrev pub offered : ℕ → OfferState
 offered kind = record { hash = hash; x = 5; y = 6; kind = kind; a = 1; b = 2; c = 3; d = 4 }
 
+-- a fetch row, by xorb, chunk start and end, bytes to skip and bytes to take; and one as it is lent
+abbrev pub fetchRow : List ℕ → ℕ → ℕ → ℕ → ℕ → Row
+fetchRow xorb start end skip take = record { xorb = xorb; start = record { 0 = start }; end = record { 0 = end }; skip = skip; take = take }
+
+abbrev pub lentRow : Row
+lentRow = fetchRow (replicate 4 9) 9 9 9 9
+
 -- ## Bytes
 
 abbrev pub zeros : ℕ → List ℕ
@@ -135,3 +143,7 @@ emptyXorb h = row h 0 0 0 7
 
 abbrev pub oneOfEach : List ℕ → List ℕ
 oneOfEach h = header 0 ++ emptyFile h ++ bookend ++ emptyXorb h ++ bookend
+
+-- a file of three segments, of 3, 0 and 2 bytes, and at 240 an empty one
+abbrev pub threeSegments : List ℕ
+threeSegments = header 0 ++ row other 0 3 0 0 ++ row hash 0 3 1 4 ++ row hash 0 0 4 5 ++ row other 0 2 0 2 ++ row hash 0 0 0 0 ++ bookend ++ bookend

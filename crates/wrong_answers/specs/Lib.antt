@@ -8,6 +8,7 @@ pub mod Beside
 pub mod Writer
 pub mod Finder
 pub mod Join
+pub mod Plan
 pub mod Host
 pub mod Calls
 pub mod Paper

@@ -2,19 +2,25 @@
 -- An enum is told as it crosses to C (crate host, specs/Boundary).
 use Prim.Native.Nat.{ℕ}
 use mathlib.Core.Bool.{Bool}
-use mathlib.Core.List.{List, [], _∷_}
+use mathlib.Core.List.{List, [], _∷_, _++_}
+use mathlib.Core.Option.{Option, none, some}
 use Rattle.rules.specs.Verdicts.{numbersOf}
 use Rattle.rules.specs.declared.Due.{Due}
 use Rattle.rules.specs.declared.Verdict.{Verdict}
+use Rattle.layout.specs.Layout.{Segment, joined}
 use Rattle.reader.specs.declared.Said.{Said}
 use Rattle.writer.specs.declared.Fields.{Fields}
 use Rattle.writer.specs.declared.Answer.{Answer}
 use Rattle.finder.specs.declared.FoundChunk.{FoundChunk}
 use Rattle.finder.specs.declared.FoundFile.{FoundFile}
 use Rattle.join.specs.declared.Joined.{Joined}
+use Rattle.plan.specs.Plan.{Plan, answerTo, tableTo}
+use Rattle.plan.specs.declared.Row.{Row}
+use Rattle.plan.specs.declared.Planned.{Planned}
 use Rattle.host.specs.Boundary.{mark, dueOut, offerBy, saidOut, refusalIn, wroteOut, refusalOf}
 use Rattle.host.specs.Founds.{chunkOut, fileOut}
 use Rattle.host.specs.Joins.{joinedOut}
+use Rattle.host.specs.Plans.{plannedOut}
 
 abbrev pub number : ℕ → List ℕ
 number n = n ∷ []
@@ -50,3 +56,21 @@ fileTold f = fileOut f .said ∷ fileOut f .file ∷ fileOut f .at ∷ fileOut f
 
 abbrev pub joinedTold : Joined → List ℕ
 joinedTold j = joinedOut j .wrote ∷ joinedOut j .at ∷ joinedOut j .number ∷ []
+
+abbrev pub plannedTold : Planned → List ℕ
+plannedTold p = plannedOut p .rows ∷ plannedOut p .at ∷ plannedOut p .number ∷ []
+
+abbrev pub rowsTold : List Row → List ℕ
+rowsTold rows = joined (λ r. r .xorb ++ (r .start .0 ∷ r .end .0 ∷ r .skip ∷ r .take ∷ [])) rows
+
+-- the answer, and the rows
+abbrev pub planTold : Plan → List ℕ
+planTold p = plannedTold (answerTo p) ++ rowsTold (tableTo p [])
+
+abbrev pub segmentsTold : List Segment → List ℕ
+segmentsTold segments = joined (λ s. s .xorb ++ (s .bytes ∷ s .start ∷ s .end ∷ [])) segments
+
+-- a file that is not there is told as nothing
+abbrev pub fileSegmentsTold : Option (List Segment) → List ℕ
+fileSegmentsTold none = []
+fileSegmentsTold (some segments) = 1 ∷ segmentsTold segments

@@ -50,7 +50,7 @@ use denote.Triple.Table.{entered, cited}
 use denote.Triple.Walked.{says, Stays, stay-slice, stay-none, stay-none-slice, walkOf, goes-slice, goes-none, goes-none-slice, Walks, ends-at, walked, walk-meets}
 use denote.Exit.{yes}
 use Rattle.plan.specs.Plan.{planOf, tableTo}
-use Rattle.plan.specs.Walk.{Inside, rowsLeft, Gives, Drafts}
+use Rattle.plan.specs.Walk.{Within, rowsLeft, Gives, Drafts}
 use Rattle.plan.specs.declared.Row.{Row}
 use Rattle.plan.specs.declared.rows.Cursor.{Cursor}
 use Rattle.plan.specs.declared.rows.NextRow.{NextRow}
@@ -98,7 +98,7 @@ record At (s : List ℕ) (p : Draft) (ys end : List Row) (m : ℕ) : Type 0 wher
   sum : i + m ≡ p .count
   len : length l ≡ length ys
   is : Is C.the-row c (LL.vals C.the-type C′.the-laws c)
-  inside : Inside s (c .at) (c .left)
+  within : Within s (c .at) (c .left)
   rows : length (rowsLeft s c) ≡ m
   fin : filling i (rowsLeft s c) m l ≡ end
 
@@ -173,7 +173,7 @@ module _ {M : Type 1} (𝓤 : URA M) (H : Heap 𝓤) (A : Atoms 𝓤) (W : Given
   abbrev to-next : Cursor → NextC 𝓤 H A at-mem run .Ghost
   to-next c = (((κ′, tt), (q′, tt), tt, (s, (c, tt)), (v ∷ [], (LL.vals C.the-type C′.the-laws c, tt))), tt)
 
-  ask-next : (c : Cursor) → Is C.the-row c (LL.vals C.the-type C′.the-laws c) → Inside (s .now) (c .at) (c .left) × (0 < length (rowsLeft (s .now) c)) → ent 𝓤 (⋆ 𝓤 H A (‵ Slice ∷ tok ∷ [])) (sep 𝓤 (NextC 𝓤 H A at-mem run .pre (to-next c)) (sem 𝓤 H A Slice))
+  ask-next : (c : Cursor) → Is C.the-row c (LL.vals C.the-type C′.the-laws c) → Within (s .now) (c .at) (c .left) × (0 < length (rowsLeft (s .now) c)) → ent 𝓤 (⋆ 𝓤 H A (‵ Slice ∷ tok ∷ [])) (sep 𝓤 (NextC 𝓤 H A at-mem run .pre (to-next c)) (sem 𝓤 H A Slice))
   ask-next c is h =
       qed W (‵ Slice ∷ tok ∷ []) ∵ use1 W (‵ Slice ⊛ ‵ Slice) (shr-slice-copy 𝓤 H A W (named 1) κ′ u8 .twice s (v ∷ [])) $ split ! $
       nothing ! $ owned ! C.the-row (Is C.the-row) (LL.makes C.the-type C′.the-plain 𝓤 H A) c _ is $ fjoin ! $ move ! (1 ∷ 0 ∷ []) $ fjoin ! $
@@ -190,19 +190,19 @@ module _ {M : Type 1} (𝓤 : URA M) (H : Heap 𝓤) (A : Atoms 𝓤) (W : Given
     abbrev Stand : ℕ → Type 0
     Stand m = At (s .now) p ys end m
 
-    within : (m : ℕ) (a : Stand (suc m)) → a .i < length (a .l)
-    within m a = omega (arith, a .sum, a .len, promise .fits)
+    in-table : (m : ℕ) (a : Stand (suc m)) → a .i < length (a .l)
+    in-table m a = omega (arith, a .sum, a .len, promise .fits)
 
     -- the row's place in bytes, and the next count, fit
     scaled : (m : ℕ) (a : Stand (suc m)) → a .i * 48 < 2 ^ 64
-    scaled m a = omega (arith, room .1, a .len, mul-le-mul-right 48 (le-of-lt (within m a)))
+    scaled m a = omega (arith, room .1, a .len, mul-le-mul-right 48 (le-of-lt (in-table m a)))
 
     counted : (m : ℕ) (a : Stand (suc m)) → a .i + 1 < 2 ^ 64
-    counted m a = omega (arith, room .0, a .len, within m a)
+    counted m a = omega (arith, room .0, a .len, in-table m a)
 
     -- a row is left
-    some-row : (m : ℕ) (a : Stand (suc m)) → Inside (s .now) (a .c .at) (a .c .left) × (0 < length (rowsLeft (s .now) (a .c)))
-    some-row m a = (a .inside, omega (arith, a .rows))
+    some-row : (m : ℕ) (a : Stand (suc m)) → Within (s .now) (a .c .at) (a .c .left) × (0 < length (rowsLeft (s .now) (a .c)))
+    some-row m a = (a .within, omega (arith, a .rows))
 
     exits : (a : Stand 0) → ent 𝓤 (⋆ 𝓤 H A (‵ (fobs γ (codedHoleys T.the-row .code (heres T.the-row (a .l)))) ∷ ‵ (fbor κ (Held T.the-row (length (a .l)) b o γ)) ∷ ‵ (flft κ q) ∷ ‵ Slice ∷ tok ∷ ‵ (flft κt qt) ∷ ‵ Tag ∷ [])) (Post (EL.val R.the-type R′.the-laws (p .answer)))
     exits a =
@@ -243,9 +243,9 @@ module _ {M : Type 1} (𝓤 : URA M) (H : Heap 𝓤) (A : Atoms 𝓤) (W : Given
         sum = omega (arith, a .sum);
         len = length-set (a .l) (a .i) (r .row) ∙ a .len;
         is = is;
-        inside = e .inside;
+        within = e .within;
         rows = omega (arith, ap length (e .rows), a .rows);
-        fin = filling-stores (a .i) m (r .row) (rowsLeft (s .now) (r .cursor)) (a .l) (within m a)
+        fin = filling-stores (a .i) m (r .row) (rowsLeft (s .now) (r .cursor)) (a .l) (in-table m a)
             ∙ ap (λ (l : List Row). filling (a .i) l (suc m) (a .l)) (sym (e .rows)) ∙ a .fin;
       }
 
@@ -275,10 +275,10 @@ module _ {M : Type 1} (𝓤 : URA M) (H : Heap 𝓤) (A : Atoms 𝓤) (W : Given
           assigns ! (bin ! (load ! (from ! (fld ! refl (stop !))) (look-in ! 5 (sub ! 0 refl (whole !)))) (load ! (from ! (stop !)) (look ! 12 refl)) tt) (from ! (stop !)) (init ! 13 refl (tt, tt)) $
           rewrite ! 13 (λ (y : ℕ). ‵ (fat fullShare tyPtr l₁₄ 0 (vptr b y))) (sym (place-is 48 o (a .i))) refl $
           move ! (2 ∷ 3 ∷ 4 ∷ []) $ opens-slice ! tt T.the-row (a .l) b o $
-          elem-out ! T.the-row (Is T.the-row) (shows 𝓤 H A T.the-row) (LL.vals T.the-type T′.the-laws) (LL.tells T.the-type T′.the-laws) fullShare (a .l) (a .i) (r .row) b o (within m a) (λ _.
+          elem-out ! T.the-row (Is T.the-row) (shows 𝓤 H A T.the-row) (LL.vals T.the-type T′.the-laws) (LL.tells T.the-type T′.the-laws) fullShare (a .l) (a .i) (r .row) b o (in-table m a) (λ _.
           assigns ! (of-opd ! (load ! (from ! (fld ! refl (stop !))) (look-in ! 13 (sub ! 0 refl (whole !))))) (from ! (hop ! (look ! 16 refl) (stop !))) (store-raw ! 0 refl (LL.lawful T.the-type T′.the-laws 𝓤 H A W .typed (r .row) _ (LL.owed N.the-type N′.the-laws r _ is .0) .0)) $
           move ! (1 ∷ []) $ drop ! $ owned ! T.the-row (Is T.the-row) (LL.makes T.the-type T′.the-plain 𝓤 H A) (r .row) _ (LL.owed N.the-type N′.the-laws r _ is .0) $ move ! (1 ∷ 0 ∷ []) $
-          elem-put ! T.the-row fullShare (a .l) (a .i) (r .row) (LL.vals T.the-type T′.the-laws (r .row)) b o (within m a) $ closes-slice ! tt T.the-row (a .l) (set (a .l) (a .i) (r .row)) (length-set (a .l) (a .i) (r .row)) b o $
+          elem-put ! T.the-row fullShare (a .l) (a .i) (r .row) (LL.vals T.the-type T′.the-laws (r .row)) b o (in-table m a) $ closes-slice ! tt T.the-row (a .l) (set (a .l) (a .i) (r .row)) (length-set (a .l) (a .i) (r .row)) b o $
           -- the cursor and the count go on
           assigns ! (of-opd ! (load ! (from ! (fld ! refl (stop !))) (look-in ! 10 (sub ! 1 refl (whole !))))) (from ! (stop !)) (store ! 8 refl (LL.lawful C.the-type C′.the-laws 𝓤 H A W .typed (r .cursor) _ (LL.owed N.the-type N′.the-laws r _ is .1 .0) .0)) $
           assigns-last ! (bin ! (load ! (from ! (stop !)) (look ! 9 refl)) (lit ! tt) (record { fits = counted m a })) (from ! (stop !)) (store ! 9 refl (tt, record { fits = counted m a })) $
@@ -320,7 +320,7 @@ module _ {M : Type 1} (𝓤 : URA M) (H : Heap 𝓤) (A : Atoms 𝓤) (W : Given
         sum = omega arith;
         len = refl;
         is = LL.owed P.the-type P′.the-laws p vs is .1 .0;
-        inside = e .inside;
+        within = e .within;
         rows = sym (e .counts);
         fin = filling-begins (rowsLeft (s .now) (p .cursor)) (p .count) ys ∙ sym (e .fills ys);
       }

@@ -3,14 +3,14 @@ use mathlib.Core.Path.{_≡_, _∙_}
 use Prim.Native.Nat.{_+_, _≤_}
 use mathlib.Core.Logic.{⊎-elim}
 use native.Mathlib.Omega.{arith}
-use Rattle.plan.specs.Walk.{Inside, measureOf}
+use Rattle.plan.specs.Walk.{Within, measureOf}
 use Rattle.plan.proofs.Passes.{measureFrom, measure-begins, measure-takes, measure-passes, measure-ends, measure-done}
 use Rattle.plan.proofs.rows.measured.Statement.{statement}
 use Rattle.plan.proofs.rows.measured.Tie as tie
 
 abbrev Inv-loop : tie.InvT-loop
 Inv-loop shard at₀ a₀ b₀ left₀ rows₀ at a b left rows =
-    Inside shard at left × (rows + left ≤ left₀) × (measureFrom shard rows at a b left ≡ measureOf shard (record { at = at₀; a = a₀; b = b₀; left = left₀ }))
+    Within shard at left × (rows + left ≤ left₀) × (measureFrom shard rows at a b left ≡ measureOf shard (record { at = at₀; a = a₀; b = b₀; left = left₀ }))
 
 abbrev μ-loop : tie.MeasureT-loop
 μ-loop shard at₀ a₀ b₀ left₀ rows₀ at a b left rows = left

@@ -3,14 +3,14 @@ use mathlib.Core.Path.{_≡_, refl, ap, _∙_}
 use Prim.Native.Nat.{_<_}
 use lib.ListN.{length}
 use native.Mathlib.Omega.{arith}
-use Rattle.plan.specs.Walk.{Inside}
+use Rattle.plan.specs.Walk.{Within}
 use Rattle.plan.proofs.Passes.{rowsFrom, turn-takes, turn-passes, some-left}
 use Rattle.plan.proofs.rows.next_row.Statement.{statement}
 use Rattle.plan.proofs.rows.next_row.Tie as tie
 
 abbrev Inv-loop : tie.InvT-loop
 Inv-loop shard at₀ a₀ b₀ left₀ at a b left =
-    Inside shard at left × (0 < length (rowsFrom shard at a b left)) × (rowsFrom shard at₀ a₀ b₀ left₀ ≡ rowsFrom shard at a b left)
+    Within shard at left × (0 < length (rowsFrom shard at a b left)) × (rowsFrom shard at₀ a₀ b₀ left₀ ≡ rowsFrom shard at a b left)
 
 abbrev μ-loop : tie.MeasureT-loop
 μ-loop shard at₀ a₀ b₀ left₀ at a b left = left
@@ -40,7 +40,7 @@ returns c =
     let c3 = c2 .before in
     let c4 = c3 .before in record {
       rows = c4 .loop .inv .2 ∙ turn-takes _ _ _ _ _ _ _ (c3 .read .ensures) (c2 .shared .ensures) (some-left _ _ _ _ _ (c4 .loop .inv .1)) (c1 .if1 .taken);
-      inside = omega (arith, c4 .loop .inv .0, some-left _ _ _ _ _ (c4 .loop .inv .1));
+      within = omega (arith, c4 .loop .inv .0, some-left _ _ _ _ _ (c4 .loop .inv .1));
     }
 
 loop-less : tie.Need-loop-less Inv-loop μ-loop
