@@ -69,8 +69,8 @@ module _ (tag bytes : List ℕ) (file a b room : ℕ) where
     abbrev cursor : Cursor
     cursor = record { at = at; a = a; b = b; left = n }
 
-    pub segments-within : Within bytes at n
-    segments-within = there .within
+    pub there-within : Within bytes at n
+    there-within = there .within
 
     plan-is : planOf tag bytes file a b room ≡ planFor (some segments) a b room
     unfolding planOf

@@ -9,7 +9,7 @@ use lib.ListN.{length, take}
 use lib.Seq.{take-nil, drop-nil}
 use borrow.Author.Tests.{lt-ltb, ltb-true}
 use Rattle.words.specs.Le.{part}
-use Rattle.layout.specs.Layout.{Segment, sumOf, joined}
+use Rattle.layout.specs.Layout.{Segment, Each, sumOf, joined}
 use Rattle.plan.specs.Plan.{Extent, behind, from, upTo, shares, rowFor, rowsFor, fileBytes}
 use Rattle.plan.specs.Claims.{Common, Taken, Store, unpacked, fetched, Honest, stretch, RowsClaim}
 use Rattle.plan.specs.declared.Row.{Row}
@@ -55,6 +55,13 @@ few-are a b (s ∷ ss) =
     by-step a b s ss (λ l. length l ≤ length (s ∷ ss)) (λ t. omega arith) (λ t. omega arith)
 
 -- ## Their takes
+
+some-byte-each : (a b : ℕ) (ss : List Segment) → Each (λ r. 0 < r .take) (rowsFor a b ss)
+unfolding rowsFor
+some-byte-each a b [] = tt
+some-byte-each a b (s ∷ ss) =
+    let ih = some-byte-each (a - s .bytes) (b - s .bytes) ss in
+    by-step a b s ss (λ l. Each (λ r. 0 < r .take) l) (λ t. (t, ih)) (λ t. ih)
 
 abbrev taken : List Row → ℕ
 taken rows = sumOf (λ r. r .take) rows
@@ -122,6 +129,7 @@ pub rows : RowsClaim
 rows = record {
   shares-if = λ a b e. (common-from a b e, (λ c. common-to a b e (c .0) (c .1)));
   row = λ a b e i t. (row-to a b e i, row-from a b e i);
+  some-byte = some-byte-each;
   takes = takes-are;
   few = few-are;
   bytes = bytes-are;

@@ -55,6 +55,8 @@ pub record RowsClaim : Type 0 where
   pub shares-if : (a b : ℕ) (e : Extent) → shares a b e ≡ true ↔ ((i : ℕ) × Common a b e i)
   -- its row takes just those
   pub row : (a b : ℕ) (e : Extent) (i : ℕ) → shares a b e ≡ true → Common a b e i ↔ Taken e (rowFor a b e) i
+  -- each row takes a byte
+  pub some-byte : (a b : ℕ) (segments : List Segment) → Each (λ r. 0 < r .take) (rowsFor a b segments)
   -- the takes add up to the range
   pub takes : (a b : ℕ) (segments : List Segment) → a ≤ b → b ≤ fileBytes segments → sumOf (λ r. r .take) (rowsFor a b segments) ≡ b - a
   -- no more rows are needed than there are segments

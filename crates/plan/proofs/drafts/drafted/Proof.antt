@@ -1,7 +1,7 @@
 -- `drafted` meets its contract: each way out keeps its promise (proofs/Drafting). Assumes nothing.
 use native.Mathlib.Omega.{arith}
 use borrow.Author.Needs.{needs}
-use Rattle.plan.proofs.Drafting.{drafts-refused, drafts-absent, segments-within, drafts-empty, drafts-past, drafts-full, drafts-rows}
+use Rattle.plan.proofs.Drafting.{drafts-refused, drafts-absent, there-within, drafts-empty, drafts-past, drafts-full, drafts-rows}
 use Rattle.plan.proofs.drafts.drafted.Statement.{statement}
 use Rattle.plan.proofs.drafts.drafted.Tie as tie
 
@@ -16,7 +16,7 @@ measured-requires : tie.Need-measured-requires
 measured-requires c κs =
     let c1 = c .before .before in
     let c2 = c1 .before .before in
-    segments-within _ _ _ 0 0 0 _ _ _ (c2 .seek .ensures) (c1 .at .given .1)
+    there-within _ _ _ 0 0 0 _ _ _ (c2 .seek .ensures) (c1 .at .given .1)
 
 returns-2 : tie.Need-returns-2
 returns-2 c =
