@@ -1,15 +1,17 @@
 //! The form of the two files of a casebook: cases with the lengths of their
-//! pieces, and two shards to be joined with a buffer, in; all that is made of
-//! each out.
+//! pieces, two shards to be joined with a buffer, and a stretch to be planned,
+//! in; all that is made of each out.
 
 use crate::cases::{random_cut_case, Case};
 use crate::draw::{Draw, ROOMS};
-use crate::generate::Rng;
+use crate::generate::{Rng, LONGEST};
 use crate::join::join;
+use crate::plan::{plan, Row};
 use crate::reader::{
-    find_chunk, find_file, hash_at, judge, Answer, Fields, Hash, Kind, Reader, Record, Refusal,
-    Verdict, ALL_ONES,
+    find_chunk, find_file, hash_at, judge, Answer, ChunkIndex, Fields, Hash, Kind, Reader, Record,
+    Refusal, Verdict, ALL_ONES,
 };
+use crate::stretch::Stretch;
 use crate::vectors::{encode, line};
 
 /// The cases of the stored files.
@@ -21,8 +23,14 @@ pub const SEED: u64 = 2_767;
 /// The longest shard that the program reads.
 const SHARD_MOST: usize = 8_192;
 
+/// It reads every shard of a stretch.
+const _: () = assert!(LONGEST <= SHARD_MOST);
+
+/// The rows of the program's table; a stretch is lent no more.
+const ROWS: usize = 8;
+
 /// A case, and the lengths of the pieces that it is read in; two shards to be
-/// joined, and the buffer that is lent for it.
+/// joined, and the buffer that is lent for it; a stretch to be planned.
 #[derive(Clone, Debug)]
 pub struct Entry {
     /// The case.
@@ -34,6 +42,8 @@ pub struct Entry {
     pub pair: Draw,
     /// The buffer.
     pub buffer: Vec<u8>,
+    /// The stretch.
+    pub stretch: Stretch,
 }
 
 impl Entry {
@@ -48,17 +58,21 @@ impl Entry {
         let pair = Draw::short_pair(rng, number, SHARD_MOST);
         let room = rng.pick(&ROOMS).bytes(rng, &pair);
         let buffer = (0..room).map(|_| rng.word() as u8).collect();
+        let turn = rng.word();
+        let stretch = Stretch::random(rng, turn);
         Entry {
             case,
             pieces,
             pair,
             buffer,
+            stretch,
         }
     }
 
     /// Its bytes in the input file: the case, K and K lengths; then in the form
     /// of a case the tag and the first shard, and the second shard and the
-    /// buffer, each behind its length.
+    /// buffer, each behind its length; then again in the form of a case the
+    /// tag and the shard of the stretch, and what is asked of it.
     pub fn encode(&self) -> Vec<u8> {
         let mut bytes = encode(&self.case.tag, &self.case.shard);
         bytes.push(self.pieces.len() as u8);
@@ -68,6 +82,20 @@ impl Entry {
             bytes.extend((part.len() as u32).to_le_bytes());
             bytes.extend(part);
         }
+        bytes.extend(encode(&self.stretch.tag, &self.stretch.shard));
+        bytes.extend(self.asked());
+        bytes
+    }
+
+    /// What is asked of the stretch's shard, behind its length: the file's
+    /// number, the first byte, the byte after the last and the rows lent.
+    fn asked(&self) -> Vec<u8> {
+        let stretch = &self.stretch;
+        let mut bytes = vec![24];
+        bytes.extend(stretch.file.to_le_bytes());
+        bytes.extend(stretch.a.to_le_bytes());
+        bytes.extend(stretch.b.to_le_bytes());
+        bytes.extend((stretch.room as u32).to_le_bytes());
         bytes
     }
 
@@ -82,6 +110,7 @@ impl Entry {
         lines.push(file_line(tag, shard, last_hash(&records, Kind::FileHead)));
         lines.push(written_line(tag, shard, &records));
         lines.push(self.joined_line());
+        lines.extend(self.planned_lines());
         (lines.join("\n") + "\n", verdict)
     }
 
@@ -98,13 +127,33 @@ impl Entry {
     /// That, and a sum that tells where each byte of the buffer stands after it.
     fn joined_line(&self) -> String {
         let mut buffer = self.buffer.clone();
-        let said = match self.joined(&mut buffer) {
-            Ok(size) => format!("ok {size}"),
-            Err(refusal) => line(&Err(refusal)),
-        };
+        let said = answer(self.joined(&mut buffer));
         let add = |sum: u64, &byte: &u8| (sum * 257 + u64::from(byte)) % 4_294_967_291;
         let sum = buffer.iter().fold(0, add);
         format!("joined {said}, the buffer's sum {sum}")
+    }
+
+    /// What planning answers; of the table no more rows are lent than it has.
+    pub fn planned(&self, table: &mut [Row]) -> Result<usize, Refusal> {
+        let stretch = &self.stretch;
+        let lent = stretch.room.min(table.len());
+        plan(
+            &stretch.tag,
+            &stretch.shard,
+            stretch.file,
+            stretch.a,
+            stretch.b,
+            &mut table[..lent],
+        )
+    }
+
+    /// That, and every row of the table after it.
+    fn planned_lines(&self) -> Vec<String> {
+        let mut table = blanks();
+        let said = answer(self.planned(&mut table));
+        let mut lines = vec![format!("planned {said}")];
+        lines.extend(table.iter().map(row_line));
+        lines
     }
 
     /// The records and the verdict of a reader on these pieces.
@@ -138,6 +187,35 @@ fn offer(reader: &mut Reader, mut piece: &[u8], records: &mut Vec<Record>) {
             return;
         }
     }
+}
+
+/// The bytes of a join, the rows of a plan, or a refusal.
+fn answer(answer: Result<usize, Refusal>) -> String {
+    match answer {
+        Ok(count) => format!("ok {count}"),
+        Err(refusal) => line(&Err(refusal)),
+    }
+}
+
+/// The program's table: rows that no plan made, told apart by their number.
+pub fn blanks() -> [Row; ROWS] {
+    std::array::from_fn(|place| {
+        let number = place as u64 + 1;
+        Row {
+            xorb: [number; 4],
+            start: ChunkIndex(number),
+            end: ChunkIndex(number),
+            skip: number,
+            take: number,
+        }
+    })
+}
+
+/// Xorb hash, chunk start and end, bytes to skip and to take.
+fn row_line(row: &Row) -> String {
+    let [p, q, r, s] = row.xorb;
+    let (start, end, skip, take) = (row.start.0, row.end.0, row.skip, row.take);
+    format!("row {p} {q} {r} {s} {start} {end} {skip} {take}")
 }
 
 /// Kind, position, xorb offset (of a footer, else 0), hash and four numbers.

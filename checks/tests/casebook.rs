@@ -1,6 +1,6 @@
 //! The stored casebook: every number is in it, and it is what is written now.
 
-use checks::casebook::{Entry, CASES, SEED};
+use checks::casebook::{blanks, Entry, CASES, SEED};
 use std::fs;
 use std::path::Path;
 
@@ -47,6 +47,20 @@ fn every_join_is_seen() {
     for number in [0, 9, 15, 30] {
         assert!(seen.contains(&number), "{number} is not among {seen:?}");
     }
+}
+
+/// Plans of several rows, plans refused by the shard, and each number of a plan.
+#[test]
+fn every_plan_is_seen() {
+    let plans = (0..CASES).map(|case| Entry::random(SEED, case).planned(&mut blanks()));
+    let plans: Vec<Result<usize, u8>> = plans
+        .map(|planned| planned.map_err(|refusal| refusal.number))
+        .collect();
+    for number in [15, 17, 18] {
+        assert!(plans.contains(&Err(number)), "{number} is not in {plans:?}");
+    }
+    assert!(plans.iter().any(|planned| planned.is_ok_and(|n| n > 1)));
+    assert!(plans.iter().any(|planned| planned.is_err_and(|n| n <= 14)));
 }
 
 /// However a case is cut, its lines are the same.

@@ -21,7 +21,7 @@ struct Call {
     taken: usize,
 }
 
-fn hash_told(h: [u64; 4]) {
+pub fn hash_told(h: [u64; 4]) {
     named(b" ", h[0]);
     named(b" ", h[1]);
     named(b" ", h[2]);

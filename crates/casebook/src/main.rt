@@ -1,9 +1,12 @@
 // Reads the cases on standard input, one after the other, and tells all that the library makes of each. A case is one byte T, T bytes of tag, four
 // bytes N (little-endian), N bytes of shard, one byte K and K bytes, the lengths of the pieces that it is read in, over and over.
 // Where K is 0 it is read in one piece. A length 0 is an empty piece and then one of a byte. Then come in the same way a tag, a shard,
-// another one and a buffer, with which these two are joined.
+// another one and a buffer, with which these two are joined; then a tag and a shard of which a stretch is planned, one byte 24, and in
+// 24 bytes (little-endian) the file's number in four, the stretch's first byte and the byte after its last in eight each, and in four
+// how many rows of the table are lent, 8 at the most.
 use aloud::Heard;
 use joined::next_joined;
+use planned::next_planned;
 use shardline::text::say;
 use trial::cases::SHARD_MOST;
 use trial::cases::TAG_MOST;
@@ -16,6 +19,7 @@ use whole::written_told;
 
 mod aloud;
 mod joined;
+mod planned;
 mod whole;
 
 // One case: the records in pieces and the verdict on them, then what is made of the whole shard.
@@ -59,7 +63,7 @@ fn main() {
     let mut turns = u64::MAX;
     let mut more = true;
     while turns > 0 && more {
-        more = next_told() && next_joined();
+        more = next_told() && next_joined() && next_planned();
         turns -= 1;
     }
 }

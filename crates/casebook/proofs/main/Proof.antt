@@ -18,6 +18,7 @@ main-spec =
     (λ c. tt)
     (λ c. λ κs. tt)
     (λ c. λ κs. tt)
+    (λ c. λ κs. tt)
     (λ c. omega arith)
     (λ c. omega arith)
     (λ c. tt)
