@@ -1,5 +1,5 @@
-/* Shards read, written, joined and planned from, for C. `./archive` makes the library, target/staticlib/libmelagbosun.a (x86-64); link it with
- * `cc program.c -Iinclude -Ltarget/staticlib -lmelagbosun`.
+/* Shards read, written and joined, and stretches of their files planned, for C. `./archive` makes the library,
+ * target/staticlib/libmelagbosun.a (x86-64); link it with `cc program.c -Iinclude -Ltarget/staticlib -lmelagbosun`.
  *
  * No call keeps, allocates or frees anything: a state goes in by value and the next one comes back in the answer. A lent
  * slice is a pointer and a length; an empty one may have any pointer but NULL, and one that is written overlaps no other of

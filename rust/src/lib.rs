@@ -1,4 +1,5 @@
-//! Shards read, written, joined and planned from through a library that is proved to follow its written rules.
+//! Reads, writes and joins shards, and plans what to fetch of their files, through a library that is proved to follow its written
+//! rules.
 //!
 //! - [`Reader`] reads a shard in pieces, [`Writer`] writes one record by record.
 //! - [`judge`] answers for a whole shard in a buffer, [`find_chunk`] and [`find_file`] look for a hash in it.
