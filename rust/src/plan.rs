@@ -82,9 +82,12 @@ pub fn plan_into(
 /// # Ok::<(), melagbosun::Refusal>(())
 /// ```
 ///
+/// The table that it makes has a row for each byte of the range or for each record of the shard, whichever is less, so that no
+/// plan is too long for it.
+///
 /// # Errors
 ///
-/// As [`plan_into`] says; the table is long enough.
+/// As [`plan_into`] says, but for 15.
 pub fn plan(
     tag: &[u8],
     shard: &[u8],

@@ -19,6 +19,7 @@ pub struct FileNumber(pub u32);
 
 pub struct BlockNumber(pub u32);
 
+// It crosses to a host as it is, in a table of planned rows.
 #[repr(C)]
 pub struct ChunkIndex(pub u32);
 

@@ -1,5 +1,7 @@
 -- `mdb_plan` meets its contract: a walk of its MIR, by hand. The table is handed on for good to `plan`, and what that answers goes out as numbers. All that the
 -- proof knows of the two functions is that each meets its contract. Assumes nothing.
+-- In the walk, g is the tag, s the shard, n the file's number, x and y are the range, t is the table; T stands for rows, R for answers, K for file numbers, S for
+-- what crosses.
 use mathlib.Core.Path.{_≡_, refl, ap, _∙_}
 use Prim.Native.Nat.{ℕ}
 use mathlib.Core.List.{[], _∷_, List}

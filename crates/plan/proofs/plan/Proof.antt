@@ -1,6 +1,8 @@
 -- `plan` meets its contract: a walk of its MIR, by hand, with a loop. `drafted` says how many rows there are and where to begin, and in each turn `next_row` makes a row,
 -- which is stored. All that the proof knows of the two is that each meets its contract.
 -- The loop's variant is a record with its proofs, `At`: where the loop stands with m rows left. Assumes nothing.
+-- In the walk, g is the tag, s the shard, k the file's number, x and y are the range, ys is the table; T stands for rows, C for cursors, N for what `next_row`
+-- gives, P for drafts, K for file numbers, R for answers.
 use mathlib.Core.Path.{_≡_, refl, sym, ap, subst, _∙_}
 use mathlib.Core.Bool.{Bool}
 use Prim.Native.Nat.{ℕ, zero, suc, _+_, _<_, _^_, _*_}

@@ -1,5 +1,7 @@
 -- `filled` meets its contract: a walk of its MIR, by hand. The first rows of the local array are lent to `plan` for a lifetime made for the call, and come back as it left them.
 -- All that the proof knows of `plan` is that it meets its contract. Assumes nothing.
+-- In the walk, g is the tag, s the shard, k the file's number, x and y are the range, ys is the table, m how many of its rows are lent; T stands for rows, R for
+-- answers, K for file numbers, S for what is answered with the table.
 use mathlib.Core.Path.{_≡_, refl, sym, ap, subst, _∙_}
 use Prim.Native.Nat.{ℕ, _≤_}
 use mathlib.Core.List.{[], _∷_, List, _++_}
