@@ -272,7 +272,7 @@ module _ {M : Type 1} (𝓤 : URA M) (H : Heap 𝓤) (A : Atoms 𝓤) (W : Given
           split ! $ move ! (1 ∷ []) $ use1 W (raw (fact 𝓤 (Gives (s .now) (a .c) r))) (next-said (a .c) r) $ heard ! (Gives (s .now) (a .c) r) (λ e. split ! $ move ! (1 ∷ []) $
           peeks ! N.the-row (Is N.the-row) (shows 𝓤 H A N.the-row) r (w ∷ []) (λ is.
           land ! (from ! (stop !)) (init ! 11 refl (LL.lawful N.the-type N′.the-laws 𝓤 H A W .typed r _ is .0)) $ rewrite ! 11 (λ (y : Val). ‵ (fat fullShare (ty 10) l₁₀ 0 y)) (ap only (LL.tells N.the-type N′.the-laws r _ is)) refl $ drop ! $
-          -- [the token; what buf owns; obs; the borrow; rows' token; _1 …]: the row's place is computed, the borrow is opened, and the row is stored
+          -- [the shard's token; what the shard owns; the table so far; its borrow; its token; the locals]: the row's place is computed, the borrow is opened, and the row is stored
           assigns ! (bin ! (load ! (from ! (stop !)) (look ! 9 refl)) (lit ! tt) (record { fits = scaled m a })) (from ! (stop !)) (init ! 12 refl (tt, record { fits = scaled m a })) $
           assigns ! (bin ! (load ! (from ! (fld ! refl (stop !))) (look-in ! 5 (sub ! 0 refl (whole !)))) (load ! (from ! (stop !)) (look ! 12 refl)) tt) (from ! (stop !)) (init ! 13 refl (tt, tt)) $
           rewrite ! 13 (λ (y : ℕ). ‵ (fat fullShare tyPtr l₁₄ 0 (vptr b y))) (sym (place-is 48 o (a .i))) refl $
