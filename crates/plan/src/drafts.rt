@@ -42,7 +42,14 @@ fn refused_with(number: u32) -> Draft
     refused(start.refusal(number))
 }
 
-pub fn drafted(tag: &[u8], shard: &[u8], file: FileNumber, a: u64, b: u64, room: usize) -> Draft
+pub(crate) fn drafted(
+    tag: &[u8],
+    shard: &[u8],
+    file: FileNumber,
+    a: u64,
+    b: u64,
+    room: usize,
+) -> Draft
     ensures { λ r. ⌜ Drafts (now (tag .entry)) (now (shard .entry)) (file .0) a b room r ⌝ }
 {
     match seek(tag, shard, file) {

@@ -54,7 +54,7 @@ fn shared(a: u64, b: u64, n: u32) -> Share
 }
 
 // The walk ends with the range: behind it no segment has a row.
-pub fn measured(shard: &[u8], c: Cursor) -> Measure
+pub(crate) fn measured(shard: &[u8], c: Cursor) -> Measure
     requires { ⌜ Within (now shard) (c .at) (c .left) ⌝ }
     ensures { λ r. ⌜ r ≡ measureOf (now (shard .entry)) c ⌝ }
 {
@@ -81,7 +81,7 @@ pub fn measured(shard: &[u8], c: Cursor) -> Measure
 }
 
 // The first of the rows that are left.
-pub fn next_row(shard: &[u8], c: Cursor) -> NextRow
+pub(crate) fn next_row(shard: &[u8], c: Cursor) -> NextRow
     requires { ⌜ Within (now shard) (c .at) (c .left) × (0 < length (rowsLeft (now shard) c)) ⌝ }
     ensures { λ r. ⌜ Gives (now (shard .entry)) c r ⌝ }
 {
