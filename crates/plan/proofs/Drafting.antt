@@ -1,21 +1,17 @@
 -- Each way out of `drafted` keeps its promise, because the plan is refused for the same reason, or has the rows that were counted. Assumes nothing.
 use mathlib.Core.Path.{_≡_, refl, sym, ap, _∙_, subst}
-use mathlib.Core.Bool.{true}
-use mathlib.Core.Option.{Option, some}
+use mathlib.Core.Logic.{inl, inr}
+use mathlib.Core.Option.{some}
 use mathlib.Core.List.{List, _++_}
 use Prim.Native.Nat.{ℕ, _-_, _≤_, _<_}
 use native.Mathlib.Omega.{arith}
-use lib.Dec.{leb}
 use lib.ListN.{length, drop}
-use borrow.Author.Tests.{lt-ltb, le-ltb, le-leb, lt-leb}
 use Rattle.rules.specs.Rules.{start}
 use Rattle.rules.specs.Verdicts.{refusalAt}
 use Rattle.rules.specs.declared.Refusal.{Refusal}
-use Rattle.rules.specs.declared.Verdict.{Verdict}
-use Rattle.rules.specs.declared.Verdict.the-variants as verdict
 use Rattle.layout.specs.Layout.{Segment}
-use Rattle.layout.specs.Scan.{foundIn, IsAccepted}
-use Rattle.plan.specs.Plan.{Plan, fetch, refused, rowsFor, fileBytes, segmentsIn, planFor, planBy, planOf, answerTo, tableTo}
+use Rattle.plan.specs.Plan.{Plan, fetch, refused, rowsFor, fileBytes, planFor, planOf, answerTo, tableTo}
+use Rattle.plan.specs.Claims.{InFile}
 use Rattle.plan.specs.Walk.{segmentsFrom, Within, measureOf, SegmentsThere, NoneThere, Seeks, refusedDraft, Drafts}
 use Rattle.plan.specs.declared.Row.{Row}
 use Rattle.plan.specs.declared.Planned.the-variants as planned
@@ -24,10 +20,7 @@ use Rattle.plan.specs.declared.rows.Measure.{Measure}
 use Rattle.plan.specs.declared.files.Sought.{Sought}
 use Rattle.plan.specs.declared.files.Sought.the-variants as sought
 use Rattle.plan.specs.declared.drafts.Draft.{Draft}
-
-by-accepted : (v : Verdict) (p : Plan) → IsAccepted v → planBy v p ≡ p
-by-accepted (verdict.Accepted s) p a = refl
-by-accepted (verdict.Refused r) p a = absurd a
+use Rattle.plan.proofs.Outcomes.{plan-refused, plan-found, out-from, short-from, rows-from}
 
 module _ (tag bytes : List ℕ) (file a b room : ℕ) where
   -- ## A refused plan
@@ -43,16 +36,12 @@ module _ (tag bytes : List ℕ) (file a b room : ℕ) where
   })
 
   pub drafts-refused : (q : Sought) (r : Refusal) (d : Draft) → Seeks tag bytes file q → q ≡ sought.Refused r → d ≡ refusedDraft r → Drafts tag bytes file a b room d
-  unfolding planOf
-  drafts-refused q r d h e x =
-      let v : foundIn tag bytes .verdict ≡ verdict.Refused r = subst (Seeks tag bytes file) e h in
-      drafts-no r d (ap (λ (y : Verdict). planBy y (planFor (segmentsIn file (foundIn tag bytes .records)) a b room)) v) x
+  drafts-refused q r d h e x = drafts-no r d (plan-refused tag bytes file a b room r (subst (Seeks tag bytes file) e h)) x
 
   pub drafts-absent : (q : Sought) (d : Draft) → Seeks tag bytes file q → q ≡ sought.Absent → d ≡ refusedDraft (refusalAt 17 start) → Drafts tag bytes file a b room d
-  unfolding planOf
   drafts-absent q d h e x =
       let t : NoneThere tag bytes file = subst (Seeks tag bytes file) e h in
-      drafts-no _ d (by-accepted (foundIn tag bytes .verdict) _ (t .accepted) ∙ ap (λ (o : Option (List Segment)). planFor o a b room) (t .found)) x
+      drafts-no _ d (plan-found tag bytes file a b room _ (t .accepted) (t .found)) x
 
   -- ## A file that is there
 
@@ -73,11 +62,10 @@ module _ (tag bytes : List ℕ) (file a b room : ℕ) where
     there-within = there .within
 
     plan-is : planOf tag bytes file a b room ≡ planFor (some segments) a b room
-    unfolding planOf
-    plan-is = by-accepted (foundIn tag bytes .verdict) _ (there .accepted) ∙ ap (λ (o : Option (List Segment)). planFor o a b room) (there .found)
+    plan-is = plan-found tag bytes file a b room _ (there .accepted) (there .found)
 
     pub drafts-empty : (d : Draft) → b ≤ a → d ≡ refusedDraft (refusalAt 18 start) → Drafts tag bytes file a b room d
-    drafts-empty d l x = drafts-no _ d (plan-is ∙ rw (le-ltb a b l)) x
+    drafts-empty d l x = drafts-no _ d (plan-is ∙ out-from segments a b room (inl l)) x
 
     module _ (m : Measure) (measured : m ≡ measureOf bytes cursor) (l : a < b) where
       count : m .rows ≡ length rows
@@ -86,18 +74,18 @@ module _ (tag bytes : List ℕ) (file a b room : ℕ) where
       past : m .past ≡ b - fileBytes segments
       past = ap (λ (y : Measure). y .past) measured
 
-      pub drafts-past : (d : Draft) → 0 < m .past → d ≡ refusedDraft (refusalAt 18 start) → Drafts tag bytes file a b room d
-      drafts-past d p x = drafts-no _ d (plan-is ∙ rw (lt-ltb a b l, lt-leb b (fileBytes segments) (omega (arith, past)))) x
+      in-file : m .past ≤ 0 → InFile segments a b
+      in-file p = record { range = l; end = omega (arith, past) }
 
-      inside : m .past ≤ 0 → leb b (fileBytes segments) ≡ true
-      inside p = le-leb b (fileBytes segments) (omega (arith, past))
+      pub drafts-past : (d : Draft) → 0 < m .past → d ≡ refusedDraft (refusalAt 18 start) → Drafts tag bytes file a b room d
+      drafts-past d p x = drafts-no _ d (plan-is ∙ out-from segments a b room (inr (omega (arith, past)))) x
 
       pub drafts-full : (d : Draft) → m .past ≤ 0 → room < m .rows → d ≡ refusedDraft (refusalAt 15 start) → Drafts tag bytes file a b room d
-      drafts-full d p r x = drafts-no _ d (plan-is ∙ rw (lt-ltb a b l, inside p, lt-leb (length rows) room (omega (arith, count)))) x
+      drafts-full d p r x = drafts-no _ d (plan-is ∙ short-from segments a b room (in-file p, omega (arith, count))) x
 
       pub drafts-rows : m .past ≤ 0 → m .rows ≤ room → Drafts tag bytes file a b room (record { count = m .rows; cursor = cursor; answer = planned.Rows (m .rows) })
       drafts-rows p r =
-          let z : planOf tag bytes file a b room ≡ fetch rows = plan-is ∙ rw (lt-ltb a b l, inside p, le-leb (length rows) room (omega (arith, count))) in
+          let z : planOf tag bytes file a b room ≡ fetch rows = plan-is ∙ rows-from segments a b room (in-file p) (omega (arith, count)) in
           record {
             answers = ap planned.Rows count ∙ sym (ap answerTo z);
             within = there .within;

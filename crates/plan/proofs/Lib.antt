@@ -2,6 +2,7 @@ pub mod Steps
 pub mod Passes
 pub mod Tree
 pub mod Seeking
+pub mod Outcomes
 pub mod Drafting
 pub mod Table
 pub mod Locals

@@ -66,9 +66,9 @@ some-byte-each a b (s ∷ ss) =
 abbrev taken : List Row → ℕ
 taken rows = sumOf (λ r. r .take) rows
 
--- a stretch of the file, cut at a segment's end
-cut : (x n f : ℕ) → min x (n + f) ≡ min x n + min (x - n) f
-cut x n f = omega arith
+-- a part of a file, by that of its first segment and that of the others
+min-sum : (x n f : ℕ) → min x (n + f) ≡ min x n + min (x - n) f
+min-sum x n f = omega arith
 
 takes-add : (p q r s : ℕ) → q ≤ p → s ≤ r → (p - q) + (r - s) ≡ p + r - (q + s)
 takes-add p q r s h l = omega arith
@@ -79,7 +79,7 @@ min-le x y n h = omega arith
 takes-cut : (a b n f : ℕ) → a ≤ b → (min b n - min a n) + (min (b - n) f - min (a - n) f) ≡ min b (n + f) - min a (n + f)
 takes-cut a b n f h =
     takes-add (min b n) (min a n) (min (b - n) f) (min (a - n) f) (min-le a b n h) (min-le (a - n) (b - n) f (omega arith))
-    ∙ rw (cut b n f, cut a n f)
+    ∙ rw (min-sum b n f, min-sum a n f)
 
 sub-le : (x y n : ℕ) → x ≤ y → x - n ≤ y - n
 sub-le x y n h = omega arith

@@ -7,8 +7,9 @@ use Prim.Native.Nat.{ℕ, _+_, _-_, min, max, _≤_, _<_}
 use native.Mathlib.Nat.{sub-zero}
 use native.Mathlib.Omega.{arith}
 use lib.Dec.{ltb}
-use borrow.Author.Tests.{lt-ltb, le-ltb, ltb-true, ltb-false}
+use borrow.Author.Tests.{lt-ltb, ltb-true, ltb-false}
 use Rattle.words.specs.Checks.{pick}
+use Rattle.rules.proofs.Tests.{same-test}
 use Rattle.layout.specs.Layout.{Segment}
 use Rattle.plan.specs.Plan.{Extent, extentsFrom, from, upTo, shares, rowFor, onlyIf, rowsFor}
 use Rattle.plan.specs.Walk.{shareOf}
@@ -24,30 +25,22 @@ rowsBehind a b n ss = map (rowFor a b) (onlyIf (shares a b) (extentsFrom n ss))
 
 -- ## Moving
 
-same-test : (x y z w : ℕ) → (x < y → z < w) → (z < w → x < y) → ltb x y ≡ ltb z w
-same-test x y z w f g = go (ltb x y) refl
-  where
-    no : (t : Bool) → ltb x y ≡ false → ltb z w ≡ t → w ≤ z
-    no true e u = absurd (omega (arith, g (ltb-true z w u), ltb-false x y e))
-    no false e u = ltb-false z w u
+same-less : (x y z w : ℕ) → (x < y → z < w) → (z < w → x < y) → ltb x y ≡ ltb z w
+same-less x y z w f g = same-test (ltb x y) (ltb z w) (λ e. lt-ltb z w (f (ltb-true x y e))) (λ e. lt-ltb x y (g (ltb-true z w e)))
 
-    go : (t : Bool) → ltb x y ≡ t → t ≡ ltb z w
-    go true e = sym (lt-ltb z w (f (ltb-true x y e)))
-    go false e = sym (le-ltb z w (no (ltb z w) e refl))
-
-apart : (n x y : ℕ) → n + y - (n + x) ≡ y - x
-apart n x y = omega arith
+both-moved : (n x y : ℕ) → n + y - (n + x) ≡ y - x
+both-moved n x y = omega arith
 
 module _ (a b n : ℕ) where
   moved-shares : (k : ℕ) (s : Segment) → shares a b (extent (n + k) s) ≡ shares (a - n) (b - n) (extent k s)
-  moved-shares k s = same-test (from a (extent (n + k) s)) (upTo b (extent (n + k) s)) (from (a - n) (extent k s)) (upTo (b - n) (extent k s)) (λ h. omega arith) (λ h. omega arith)
+  moved-shares k s = same-less (from a (extent (n + k) s)) (upTo b (extent (n + k) s)) (from (a - n) (extent k s)) (upTo (b - n) (extent k s)) (λ h. omega arith) (λ h. omega arith)
 
   moved-row : (k : ℕ) (s : Segment) → shares a b (extent (n + k) s) ≡ true → rowFor a b (extent (n + k) s) ≡ rowFor (a - n) (b - n) (extent k s)
   moved-row k s t =
       let h : max a (n + k) < min b (n + k + s .bytes) = ltb-true (max a (n + k)) (min b (n + k + s .bytes)) t in
       let x : max a (n + k) ≡ n + max (a - n) k = omega arith in
       let y : min b (n + k + s .bytes) ≡ n + min (b - n) (k + s .bytes) = omega arith in
-      rw (x, y, apart n (max (a - n) k) (min (b - n) (k + s .bytes)), apart n k (max (a - n) k))
+      rw (x, y, both-moved n (max (a - n) k) (min (b - n) (k + s .bytes)), both-moved n k (max (a - n) k))
 
   moved : (k : ℕ) (ss : List Segment) → rowsBehind a b (n + k) ss ≡ rowsBehind (a - n) (b - n) k ss
   moved k [] = refl
@@ -72,7 +65,7 @@ module _ (a b : ℕ) (s : Segment) where
   share = shareOf a b (s .bytes)
 
   first-shares : shares a b (extent 0 s) ≡ ltb 0 (share .take)
-  first-shares = same-test (from a (extent 0 s)) (upTo b (extent 0 s)) 0 (share .take) (λ h. omega arith) (λ h. omega arith)
+  first-shares = same-less (from a (extent 0 s)) (upTo b (extent 0 s)) 0 (share .take) (λ h. omega arith) (λ h. omega arith)
 
   first-row : shares a b (extent 0 s) ≡ true → rowFor a b (extent 0 s) ≡ rowBy s share
   first-row t =

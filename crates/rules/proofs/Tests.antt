@@ -12,7 +12,7 @@ pub too-far : (p m rest : ℕ) → limit < p → false ≡ fits p m rest
 too-far p m rest h = sym (lt-leb (p + 48 + 48 * m + rest) limit (omega arith))
 
 -- two tests that hold together
-same-test : (x y : Bool) → (x ≡ true → y ≡ true) → (y ≡ true → x ≡ true) → x ≡ y
+pub same-test : (x y : Bool) → (x ≡ true → y ≡ true) → (y ≡ true → x ≡ true) → x ≡ y
 same-test true y f g = sym (f refl)
 same-test false true f g = g refl
 same-test false false f g = refl
