@@ -15,15 +15,17 @@ use Rattle.rules.specs.declared.Refusal.{Refusal}
 use Rattle.rules.specs.declared.Summary.{Summary}
 use Rattle.rules.specs.declared.Verdict.{Verdict}
 use Rattle.rules.specs.declared.Verdict.the-variants as verdict
-use Rattle.layout.specs.Layout.{Foot, Shard, Row, listed, footRecord, placed, rowsOf, fileSection, xorbSection, xorbOffset, footerOffset, recordsOf}
+use Rattle.layout.specs.Layout.{Foot, Shard, Row, ifAny, footRecord, placed, rowsOf, fileSection, xorbSection, xorbOffset, footerOffset, recordsOf}
+use Rattle.layout.specs.Blocks.{Stand}
 use Rattle.layout.specs.Reach.{lastPlace}
-use Rattle.layout.specs.Scan.{Found, foundIn, IsAccepted}
+use Rattle.layout.specs.Scan.{Found, foundIn, IsAccepted, ifAccepted}
+use Rattle.layout.proofs.Answers.{if-refused}
 use Rattle.layout.proofs.Last.{tag-size, Spelling, tree-of}
 use Rattle.reader.proofs.Whole.{verdict-said}
-use Rattle.finder.specs.Find.{chunkIn, chunkBy, chunkFound, fileIn, fileBy, fileFound}
+use Rattle.finder.specs.Find.{chunkIn, chunkFound, fileIn, fileFound}
 use Rattle.finder.specs.declared.FoundChunk.the-variants as chunk
 use Rattle.finder.specs.declared.FoundFile.the-variants as file
-use Rattle.finder.proofs.Standing.{Stand, stand-behind, placed-then, stand-shard}
+use Rattle.finder.proofs.Standing.{stand-behind, placed-then, stand-shard}
 use Rattle.finder.proofs.Sections.{file-section, xorb-section, file-section-kinds, xorb-section-kinds}
 use Rattle.finder.proofs.ChunkWalk.{NoChunk, chunk-past, ChunksLeft}
 use Rattle.finder.proofs.FileWalk.{NoFile, file-past, FilesLeft}
@@ -48,18 +50,18 @@ accepted tag bytes t b a =
       spelling = o;
       rows = stand-shard tag bytes s t (o .spells);
       short = omega (arith, o .size, o .spells .sound .short);
-      chunks = λ hash. ap (λ (f : Found). chunkBy (f .verdict) (chunkIn hash 0 0 (f .records))) (o .found);
-      files = λ hash. ap (λ (f : Found). fileBy (f .verdict) (fileIn hash 0 (f .records))) (o .found);
+      chunks = λ hash. ap (λ (f : Found). ifAccepted chunk.Refused (f .verdict) (λ s. chunkIn hash 0 0 (f .records))) (o .found);
+      files = λ hash. ap (λ (f : Found). ifAccepted file.Refused (f .verdict) (λ s. fileIn hash 0 (f .records))) (o .found);
     }
 
 -- ## The walks
 
-pub no-chunk-foot : (hash : List ℕ) (x h b i : ℕ) (o : Option Foot) → chunkIn hash b i (map (footRecord x h) (listed o)) ≡ chunk.Absent
+pub no-chunk-foot : (hash : List ℕ) (x h b i : ℕ) (o : Option Foot) → chunkIn hash b i (map (footRecord x h) (ifAny o)) ≡ chunk.Absent
 unfolding chunkIn
 no-chunk-foot hash x h b i none = refl
 no-chunk-foot hash x h b i (some f) = refl
 
-pub no-file-foot : (hash : List ℕ) (x h n : ℕ) (o : Option Foot) → fileIn hash n (map (footRecord x h) (listed o)) ≡ file.Absent
+pub no-file-foot : (hash : List ℕ) (x h n : ℕ) (o : Option Foot) → fileIn hash n (map (footRecord x h) (ifAny o)) ≡ file.Absent
 unfolding fileIn
 no-file-foot hash x h n none = refl
 no-file-foot hash x h n (some f) = refl
@@ -68,7 +70,7 @@ chunks-begin : (tag bytes hash : List ℕ) → Bytes tag → Accepted tag bytes 
 unfolding recordsOf rowsOf xorbOffset chunkIn
 chunks-begin tag bytes hash t a =
     let s : Shard = a .shard in
-    let foot : List Record = map (footRecord (xorbOffset s) (footerOffset s)) (listed (s .footer)) in
+    let foot : List Record = map (footRecord (xorbOffset s) (footerOffset s)) (ifAny (s .footer)) in
     subst (λ (p : ℕ). ChunksLeft bytes hash (chunkFound tag bytes hash) p 0 0 0) (sym (a .spelling .offset)) (record {
       chunks = [];
       start = 0;
@@ -90,7 +92,7 @@ files-begin : (tag bytes hash : List ℕ) → Accepted tag bytes → FilesLeft b
 unfolding recordsOf rowsOf fileIn
 files-begin tag bytes hash a =
     let s : Shard = a .shard in
-    let foot : List Record = map (footRecord (xorbOffset s) (footerOffset s)) (listed (s .footer)) in
+    let foot : List Record = map (footRecord (xorbOffset s) (footerOffset s)) (ifAny (s .footer)) in
     record {
       files = s .files;
       later = xorbSection s;
@@ -105,25 +107,26 @@ files-begin tag bytes hash a =
 
 -- ## By the verdict at the last place
 
-module _ (tag bytes hash : List ℕ) (p : Place) (v : Verdict) (last : p ≡ lastPlace tag bytes) (said : v ≡ verdictAt p) where
-  verdict-is : v ≡ foundIn tag bytes .verdict
+module _ (tag bytes : List ℕ) (p : Place) (v : Verdict) (last : p ≡ lastPlace tag bytes) (said : v ≡ verdictAt p) where
+  pub verdict-is : v ≡ foundIn tag bytes .verdict
   verdict-is = verdict-said tag bytes p v last said
 
-  -- a refused shard gives its refusal
-  pub chunk-refused : (r : Refusal) → v ≡ verdict.Refused r → chunk.Refused r ≡ chunkFound tag bytes hash
-  unfolding chunkFound
-  chunk-refused r e = rw (sym verdict-is ∙ e)
-
-  pub file-refused : (r : Refusal) → v ≡ verdict.Refused r → file.Refused r ≡ fileFound tag bytes hash
-  unfolding fileFound
-  file-refused r e = rw (sym verdict-is ∙ e)
-
-  -- an accepted one is walked
-  by-verdict : Bytes tag → Bytes bytes → (s : Summary) → v ≡ verdict.Accepted s → Accepted tag bytes
+  pub by-verdict : Bytes tag → Bytes bytes → (s : Summary) → v ≡ verdict.Accepted s → Accepted tag bytes
   by-verdict t b s e = accepted tag bytes t b (subst IsAccepted (sym e ∙ verdict-is) tt)
 
-  pub chunks-from : Bytes tag → Bytes bytes → (s : Summary) → v ≡ verdict.Accepted s → ChunksLeft bytes hash (chunkFound tag bytes hash) (p .offset .0) 0 0 0
-  chunks-from t b s e = rw last (chunks-begin tag bytes hash t (by-verdict t b s e))
+  module _ (hash : List ℕ) where
+    -- a refused shard gives its refusal
+    pub chunk-refused : (r : Refusal) → v ≡ verdict.Refused r → chunk.Refused r ≡ chunkFound tag bytes hash
+    unfolding chunkFound
+    chunk-refused r e = sym (if-refused chunk.Refused (foundIn tag bytes .verdict) _ r (sym verdict-is ∙ e))
 
-  pub files-from : Bytes tag → Bytes bytes → (s : Summary) → v ≡ verdict.Accepted s → FilesLeft bytes hash (fileFound tag bytes hash) 48 0
-  files-from t b s e = files-begin tag bytes hash (by-verdict t b s e)
+    pub file-refused : (r : Refusal) → v ≡ verdict.Refused r → file.Refused r ≡ fileFound tag bytes hash
+    unfolding fileFound
+    file-refused r e = sym (if-refused file.Refused (foundIn tag bytes .verdict) _ r (sym verdict-is ∙ e))
+
+    -- an accepted one is walked
+    pub chunks-from : Bytes tag → Bytes bytes → (s : Summary) → v ≡ verdict.Accepted s → ChunksLeft bytes hash (chunkFound tag bytes hash) (p .offset .0) 0 0 0
+    chunks-from t b s e = rw last (chunks-begin tag bytes hash t (by-verdict t b s e))
+
+    pub files-from : Bytes tag → Bytes bytes → (s : Summary) → v ≡ verdict.Accepted s → FilesLeft bytes hash (fileFound tag bytes hash) 48 0
+    files-from t b s e = files-begin tag bytes hash (by-verdict t b s e)

@@ -17,14 +17,14 @@ use Rattle.rules.specs.declared.ChunkIndex.{ChunkIndex}
 use Rattle.rules.specs.declared.Kind.{Kind}
 use Rattle.rules.specs.declared.Kind.the-variants as kind
 use Rattle.rules.specs.declared.Verdict.{Verdict}
-use Rattle.rules.specs.declared.Verdict.the-variants as verdict
-use Rattle.layout.specs.Layout.{Shard, Row, listed, placed, footRecord, rowsOf, xorbOffset, footerOffset, recordsOf}
-use Rattle.layout.specs.Scan.{foundIn, IsAccepted}
-use Rattle.finder.specs.Find.{chunkAt, chunkIn, chunkBy, chunkFound}
+use Rattle.layout.specs.Layout.{Shard, Row, ifAny, placed, footRecord, rowsOf, xorbOffset, footerOffset, recordsOf}
+use Rattle.layout.specs.Blocks.{Stand}
+use Rattle.layout.specs.Scan.{foundIn}
+use Rattle.layout.proofs.Answers.{if-accepted, was-accepted}
+use Rattle.finder.specs.Find.{chunkAt, chunkIn, chunkFound}
 use Rattle.finder.specs.Claims.{Has, NoneHas, chunksSince, There, FirstChunk, ChunkClaim}
 use Rattle.finder.specs.declared.FoundChunk.{FoundChunk}
 use Rattle.finder.specs.declared.FoundChunk.the-variants as chunk
-use Rattle.finder.proofs.Standing.{Stand}
 use Rattle.finder.proofs.ChunkWalk.{NoChunk}
 use Rattle.finder.proofs.Firsts.{first-here, first-later, not-none, other-hash, IsThere, there}
 use Rattle.finder.proofs.Begin.{Accepted, accepted, no-chunk-foot}
@@ -109,14 +109,6 @@ if-found {hash} {blocks} {index} {rs} b i p (found b′ i′ p′ f) e =
 
 -- ## In an accepted shard
 
-by-verdict : (v : Verdict) (f : FoundChunk) {b : BlockNumber} {i : ChunkIndex} {p : Position} → chunkBy v f ≡ chunk.At b i p → IsAccepted v
-by-verdict (verdict.Accepted s) f e = tt
-by-verdict (verdict.Refused r) f e = let z : _≡_ {A = ℕ} 0 1 = cc in absurd (omega arith)
-
-accepted-is : (v : Verdict) (f : FoundChunk) → IsAccepted v → chunkBy v f ≡ f
-accepted-is (verdict.Accepted s) f a = refl
-accepted-is (verdict.Refused r) f a = absurd a
-
 -- what is found among rows that stand in bytes stands there
 module _ (bytes hash : List ℕ) (b i : ℕ) (r : Record) (b′ : BlockNumber) (i′ : ChunkIndex) (p : Position) (w : wordsAt bytes (r .at .0) ≡ r .words) (l : r .at .0 + 48 ≤ length bytes)
     (rest : ℕ → ℕ → FoundChunk) (later : (b i : ℕ) → rest b i ≡ chunk.At b′ i′ p → IsThere bytes hash (p .0)) where
@@ -141,9 +133,9 @@ stands bytes hash b i at (r ∷ rows) foot b′ i′ p (w, l, s) n e =
 found-there : (tag bytes hash : List ℕ) (b : BlockNumber) (i : ChunkIndex) (p : Position) → Bytes tag → Bytes bytes → IsHash hash → chunkFound tag bytes hash ≡ chunk.At b i p → There bytes hash p
 unfolding chunkFound recordsOf
 found-there tag bytes hash b i p t y h e =
-    let a : Accepted tag bytes = accepted tag bytes t y (by-verdict (foundIn tag bytes .verdict) (chunkIn hash 0 0 (foundIn tag bytes .records)) e) in
+    let a : Accepted tag bytes = accepted tag bytes t y (was-accepted chunk.Refused (λ (f : FoundChunk). f ≡ chunk.At b i p) (foundIn tag bytes .verdict) (λ s. chunkIn hash 0 0 (foundIn tag bytes .records)) (λ r q. let z : _≡_ {A = ℕ} 0 1 = cc in absurd (omega arith)) e) in
     let s : Shard = a .shard in
-    let m = stands bytes hash 0 0 0 (rowsOf tag s) (map (footRecord (xorbOffset s) (footerOffset s)) (listed (s .footer))) b i p (a .rows)
+    let m = stands bytes hash 0 0 0 (rowsOf tag s) (map (footRecord (xorbOffset s) (footerOffset s)) (ifAny (s .footer))) b i p (a .rows)
     (λ b i. no-chunk-foot hash (xorbOffset s) (footerOffset s) b i (s .footer)) (sym (a .chunks hash) ∙ e) in
     there bytes hash p y h m
 
@@ -155,6 +147,6 @@ chunks = record {
   shard = λ tag bytes hash a.
       let v : Verdict = foundIn tag bytes .verdict in
       let rs : List Record = foundIn tag bytes .records in
-      ((λ e. if-absent (ends hash 0 0 rs) (sym (accepted-is v (chunkIn hash 0 0 rs) a) ∙ e)), (λ n. accepted-is v (chunkIn hash 0 0 rs) a ∙ if-none (ends hash 0 0 rs) n));
+      ((λ e. if-absent (ends hash 0 0 rs) (sym (if-accepted chunk.Refused v (chunkIn hash 0 0 rs) a) ∙ e)), (λ n. if-accepted chunk.Refused v (chunkIn hash 0 0 rs) a ∙ if-none (ends hash 0 0 rs) n));
   there = found-there;
 }

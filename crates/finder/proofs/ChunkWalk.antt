@@ -1,24 +1,23 @@
 -- The walk over xorb blocks and their chunks, step by step: what is still to come gives the answer for the whole, because what was passed had not that
 -- hash and each row is read where it stands. Assumes nothing.
-use mathlib.Core.Path.{_≡_, refl, sym, ap, _∙_}
-use mathlib.Core.Bool.{true, false, true≢false}
+use mathlib.Core.Path.{_≡_, refl, sym, ap, _∙_, subst}
+use mathlib.Core.Bool.{true, false}
 use mathlib.Core.List.{List, [], _∷_, _++_}
 use Prim.Native.Nat.{ℕ, _+_, _-_, _*_, _≤_, _<_}
 use native.Mathlib.Omega.{arith}
 use lib.ListN.{length}
 use Rattle.words.specs.Record.{hashAt, wordsAt, sameHash, isOnes}
 use Rattle.words.specs.declared.Words.{Words}
-use Rattle.words.proofs.Records.{ones-false}
 use Rattle.rules.specs.Rules.{limit}
 use Rattle.rules.specs.declared.Record.{Record}
 use Rattle.rules.specs.declared.Kind.{Kind}
 use Rattle.layout.specs.Layout.{Chunk, XorbBlock, Row, Each, chunkRows, placed, SoundXorb}
+use Rattle.layout.specs.Blocks.{xorbBlock, blocksThen, Stand}
+use Rattle.layout.proofs.BlockKinds.{Kinds}
 use Rattle.finder.specs.Find.{chunkAt, chunkIn}
 use Rattle.finder.specs.declared.FoundChunk.{FoundChunk}
 use Rattle.finder.specs.declared.FoundChunk.the-variants as chunk
-use Rattle.finder.proofs.Standing.{Stand}
-use Rattle.layout.proofs.BlockKinds.{Kinds}
-use Rattle.finder.proofs.Sections.{xorbsThen}
+use Rattle.finder.proofs.Heads.{xorb-heads, Head, at-bookend, at-head}
 
 -- a kind that changes nothing for chunks
 abbrev pub NoChunk : Kind → Type 0
@@ -38,15 +37,15 @@ pub record ChunksLeft (bytes hash : List ℕ) (answer : FoundChunk) (at blocks i
   pub behind : List Record
   pub count : length chunks ≡ left
   pub sound : Each SoundXorb xorbs
-  pub stand : Stand bytes at (chunkRows start chunks ++ xorbsThen xorbs [])
-  pub says : chunkIn hash blocks index (placed at (chunkRows start chunks ++ xorbsThen xorbs []) ++ behind) ≡ answer
+  pub stand : Stand bytes at (chunkRows start chunks ++ blocksThen xorbBlock xorbs [])
+  pub says : chunkIn hash blocks index (placed at (chunkRows start chunks ++ blocksThen xorbBlock xorbs []) ++ behind) ≡ answer
   pub none : (b i : ℕ) → chunkIn hash b i behind ≡ chunk.Absent
   pub few : 48 * blocks ≤ at
   pub short : length bytes ≤ limit
 
 module _ (bytes hash : List ℕ) (answer : FoundChunk) (at b : ℕ) where
   abbrev Left : List Chunk → ℕ → List XorbBlock → List Row
-  Left cs start xs = chunkRows start cs ++ xorbsThen xs []
+  Left cs start xs = chunkRows start cs ++ blocksThen xorbBlock xs []
 
   -- a record is there
   pub room : (i n : ℕ) → ChunksLeft bytes hash answer at b i n → at + 48 ≤ length bytes
@@ -57,39 +56,45 @@ module _ (bytes hash : List ℕ) (answer : FoundChunk) (at b : ℕ) where
       go [] (x ∷ xs) (w, l, t) = l
       go (k ∷ cs) xs (w, l, t) = l
 
-  -- the bookend: there is none
-  pub none-left : (i : ℕ) (w : Words) → ChunksLeft bytes hash answer at b i 0 → w ≡ wordsAt bytes at → isOnes (w .hash) ≡ true → chunk.Absent ≡ answer
-  unfolding chunkIn
-  none-left i w c e o = go (c .chunks) (c .xorbs) (c .count) (c .sound) (c .stand) (c .says)
-    where
-      go : (cs : List Chunk) (xs : List XorbBlock) → length cs ≡ 0 → Each SoundXorb xs → Stand bytes at (Left cs (c .start) xs)
-          → chunkIn hash b i (placed at (Left cs (c .start) xs) ++ c .behind) ≡ answer → chunk.Absent ≡ answer
-      go [] [] n s t a = sym (c .none b i) ∙ a
-      go [] (x ∷ xs) n (h, hs) (r, l, t) a = absurd (true≢false (sym o ∙ ap (λ (v : Words). isOnes (v .hash)) (e ∙ r) ∙ ones-false (x .hash) (h .hash) (h .not-ones)))
-      go (k ∷ cs) xs n s t a = absurd (omega arith)
+  -- where a head is due
+  module _ (i : ℕ) (c : ChunksLeft bytes hash answer at b i 0) where
+    -- what is known of the blocks that are left
+    abbrev Says : List XorbBlock → Type 0
+    Says xs = chunkIn hash b i (placed at (blocksThen xorbBlock xs []) ++ c .behind) ≡ answer
 
-  -- another head: its chunks come first
-  pub next-block : (i : ℕ) (w : Words) → ChunksLeft bytes hash answer at b i 0 → w ≡ wordsAt bytes at → isOnes (w .hash) ≡ false → ChunksLeft bytes hash answer (at + 48) (b + 1) 0 (w .b - 0)
-  unfolding chunkIn
-  next-block i w c e o = go (c .chunks) (c .xorbs) (c .count) (c .sound) (c .stand) (c .says)
-    where
-      go : (cs : List Chunk) (xs : List XorbBlock) → length cs ≡ 0 → Each SoundXorb xs → Stand bytes at (Left cs (c .start) xs)
-          → chunkIn hash b i (placed at (Left cs (c .start) xs) ++ c .behind) ≡ answer → ChunksLeft bytes hash answer (at + 48) (b + 1) 0 (w .b - 0)
-      go [] [] n s (r, l, t) a = absurd (true≢false (sym (ap (λ (v : Words). isOnes (v .hash)) (e ∙ r)) ∙ o))
-      go [] (x ∷ xs) n (h, hs) (r, l, t) a = record {
-        chunks = x .chunks;
-        start = 0;
-        xorbs = xs;
-        behind = c .behind;
-        count = omega (arith, ap (λ (v : Words). v .b) (e ∙ r));
-        sound = hs;
-        stand = t;
-        says = a;
-        none = c .none;
-        few = omega (arith, c .few);
-        short = c .short;
-      }
-      go (k ∷ cs) xs n s t a = absurd (omega arith)
+    due : Stand bytes at (blocksThen xorbBlock (c .xorbs) []) × Says (c .xorbs)
+    due = go (c .chunks) (c .count) (c .stand) (c .says)
+      where
+        go : (cs : List Chunk) → length cs ≡ 0 → Stand bytes at (Left cs (c .start) (c .xorbs)) → chunkIn hash b i (placed at (Left cs (c .start) (c .xorbs)) ++ c .behind) ≡ answer
+            → Stand bytes at (blocksThen xorbBlock (c .xorbs) []) × Says (c .xorbs)
+        go [] n t a = (t, a)
+        go (k ∷ cs) n t a = absurd (omega arith)
+
+    module _ (w : Words) (read : w ≡ wordsAt bytes at) where
+      -- the bookend: there is none
+      pub none-left : isOnes (w .hash) ≡ true → chunk.Absent ≡ answer
+      unfolding chunkIn
+      none-left o = sym (c .none b i) ∙ subst Says (at-bookend xorb-heads bytes at [] w read (c .xorbs) (c .sound) (due .0) o) (due .1)
+
+      -- another head: its chunks come first
+      pub next-block : isOnes (w .hash) ≡ false → ChunksLeft bytes hash answer (at + 48) (b + 1) 0 (w .b - 0)
+      unfolding chunkIn
+      next-block o =
+          let h : Head xorb-heads bytes at [] w read (c .xorbs) = at-head xorb-heads bytes at [] w read (c .xorbs) (c .sound) (due .0) o in
+          let says : Says (h .block ∷ h .others) = subst Says (h .are) (due .1) in
+          record {
+            chunks = h .block .chunks;
+            start = 0;
+            xorbs = h .others;
+            behind = c .behind;
+            count = omega (arith, ap (λ (v : Words). v .b) (h .words));
+            sound = h .sound;
+            stand = h .stand;
+            says = says;
+            none = c .none;
+            few = omega (arith, c .few);
+            short = c .short;
+          }
 
   -- behind the last chunk of a block no index counts
   pub block-over : (i n : ℕ) → n ≤ i → ChunksLeft bytes hash answer at b i (n - i) → ChunksLeft bytes hash answer at b 0 0

@@ -16,14 +16,14 @@ use Rattle.rules.specs.declared.FileNumber.{FileNumber}
 use Rattle.rules.specs.declared.Kind.{Kind}
 use Rattle.rules.specs.declared.Kind.the-variants as kind
 use Rattle.rules.specs.declared.Verdict.{Verdict}
-use Rattle.rules.specs.declared.Verdict.the-variants as verdict
-use Rattle.layout.specs.Layout.{Shard, Row, listed, placed, footRecord, rowsOf, xorbOffset, footerOffset, recordsOf}
-use Rattle.layout.specs.Scan.{foundIn, IsAccepted}
-use Rattle.finder.specs.Find.{fileAt, fileIn, fileBy, fileFound}
+use Rattle.layout.specs.Layout.{Shard, Row, ifAny, placed, footRecord, rowsOf, xorbOffset, footerOffset, recordsOf}
+use Rattle.layout.specs.Blocks.{Stand}
+use Rattle.layout.specs.Scan.{foundIn}
+use Rattle.layout.proofs.Answers.{if-accepted, was-accepted}
+use Rattle.finder.specs.Find.{fileAt, fileIn, fileFound}
 use Rattle.finder.specs.Claims.{Has, NoneHas, There, FirstFile, FileClaim}
 use Rattle.finder.specs.declared.FoundFile.{FoundFile}
 use Rattle.finder.specs.declared.FoundFile.the-variants as file
-use Rattle.finder.proofs.Standing.{Stand}
 use Rattle.finder.proofs.FileWalk.{NoFile}
 use Rattle.finder.proofs.Firsts.{first-here, first-later, not-none, other-hash, IsThere, there}
 use Rattle.finder.proofs.Begin.{Accepted, accepted, no-file-foot}
@@ -90,14 +90,6 @@ if-found n p (found n′ p′ f) e =
 
 -- ## In an accepted shard
 
-by-verdict : (v : Verdict) (f : FoundFile) {n : FileNumber} {p : Position} → fileBy v f ≡ file.At n p → IsAccepted v
-by-verdict (verdict.Accepted s) f e = tt
-by-verdict (verdict.Refused r) f e = let z : _≡_ {A = ℕ} 0 1 = cc in absurd (omega arith)
-
-accepted-is : (v : Verdict) (f : FoundFile) → IsAccepted v → fileBy v f ≡ f
-accepted-is (verdict.Accepted s) f a = refl
-accepted-is (verdict.Refused r) f a = absurd a
-
 -- what is found among rows that stand in bytes stands there
 module _ (bytes hash : List ℕ) (files : ℕ) (r : Record) (n : FileNumber) (p : Position) (w : wordsAt bytes (r .at .0) ≡ r .words) (l : r .at .0 + 48 ≤ length bytes)
     (rest : ℕ → FoundFile) (later : (m : ℕ) → rest m ≡ file.At n p → IsThere bytes hash (p .0)) where
@@ -121,9 +113,9 @@ stands bytes hash files at (r ∷ rows) foot n p (w, l, s) u e =
 found-there : (tag bytes hash : List ℕ) (n : FileNumber) (p : Position) → Bytes tag → Bytes bytes → IsHash hash → fileFound tag bytes hash ≡ file.At n p → There bytes hash p
 unfolding fileFound recordsOf
 found-there tag bytes hash n p t y h e =
-    let a : Accepted tag bytes = accepted tag bytes t y (by-verdict (foundIn tag bytes .verdict) (fileIn hash 0 (foundIn tag bytes .records)) e) in
+    let a : Accepted tag bytes = accepted tag bytes t y (was-accepted file.Refused (λ (f : FoundFile). f ≡ file.At n p) (foundIn tag bytes .verdict) (λ s. fileIn hash 0 (foundIn tag bytes .records)) (λ r q. let z : _≡_ {A = ℕ} 0 1 = cc in absurd (omega arith)) e) in
     let s : Shard = a .shard in
-    let m = stands bytes hash 0 0 (rowsOf tag s) (map (footRecord (xorbOffset s) (footerOffset s)) (listed (s .footer))) n p (a .rows)
+    let m = stands bytes hash 0 0 (rowsOf tag s) (map (footRecord (xorbOffset s) (footerOffset s)) (ifAny (s .footer))) n p (a .rows)
     (λ m. no-file-foot hash (xorbOffset s) (footerOffset s) m (s .footer)) (sym (a .files hash) ∙ e) in
     there bytes hash p y h m
 
@@ -135,6 +127,6 @@ files = record {
   shard = λ tag bytes hash a.
       let v : Verdict = foundIn tag bytes .verdict in
       let rs : List Record = foundIn tag bytes .records in
-      ((λ e. if-absent (ends hash 0 rs) (sym (accepted-is v (fileIn hash 0 rs) a) ∙ e)), (λ n. accepted-is v (fileIn hash 0 rs) a ∙ if-none (ends hash 0 rs) n));
+      ((λ e. if-absent (ends hash 0 rs) (sym (if-accepted file.Refused v (fileIn hash 0 rs) a) ∙ e)), (λ n. if-accepted file.Refused v (fileIn hash 0 rs) a ∙ if-none (ends hash 0 rs) n));
   there = found-there;
 }

@@ -2,7 +2,7 @@ pub mod Part
 pub mod Standing
 pub mod Sections
 pub mod ChunkWalk
-pub mod FileHeads
+pub mod Heads
 pub mod FileWalk
 pub mod Begin
 pub mod Firsts

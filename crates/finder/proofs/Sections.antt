@@ -4,35 +4,22 @@ use mathlib.Core.Path.{_≡_, refl, ap, _∙_}
 use mathlib.Core.List.{List, [], _∷_, _++_, append-assoc}
 use Rattle.rules.specs.declared.Kind.{Kind}
 use Rattle.rules.specs.declared.Kind.the-variants as kind
-use Rattle.layout.specs.Layout.{FileBlock, XorbBlock, Shard, Row, joined, fileHeadRow, fileRows, xorbHeadRow, chunkRows, xorbRows, bookend, fileSection, xorbSection}
-use Rattle.layout.proofs.BlockKinds.{entryRows, Kinds, kinds-then, file-kinds, xorb-kinds}
+use Rattle.layout.specs.Layout.{Shard, Row, joined, fileRows, xorbRows, bookend, fileSection, xorbSection}
+use Rattle.layout.specs.Blocks.{BlockRows, fileBlock, xorbBlock, blocksThen}
+use Rattle.layout.proofs.BlockKinds.{Kinds, kinds-then, file-kinds, xorb-kinds}
 
--- file blocks, their bookend, and what follows it; the same for xorb blocks
-abbrev pub filesThen : List FileBlock → List Row → List Row
-filesThen [] end = bookend ∷ end
-filesThen (f ∷ fs) end = fileHeadRow f ∷ (entryRows f ++ filesThen fs end)
+blocks-are : {B : Type 0} (k : BlockRows B) (bs : List B) (end : List Row) → joined (λ b. k .head b ∷ k .entries b) bs ++ (bookend ∷ end) ≡ blocksThen k bs end
+blocks-are k [] end = refl
+blocks-are k (b ∷ bs) end =
+    append-assoc (k .head b ∷ k .entries b) (joined (λ b. k .head b ∷ k .entries b) bs) (bookend ∷ end) ∙ ap (λ (l : List Row). k .head b ∷ (k .entries b ++ l)) (blocks-are k bs end)
 
-abbrev pub xorbsThen : List XorbBlock → List Row → List Row
-xorbsThen [] end = bookend ∷ end
-xorbsThen (x ∷ xs) end = xorbHeadRow x ∷ (chunkRows 0 (x .chunks) ++ xorbsThen xs end)
+pub file-section : (s : Shard) (end : List Row) → fileSection s ++ end ≡ blocksThen fileBlock (s .files) end
+unfolding fileSection fileRows
+file-section s end = append-assoc (joined fileRows (s .files)) (bookend ∷ []) end ∙ blocks-are fileBlock (s .files) end
 
-files-are : (fs : List FileBlock) (end : List Row) → joined fileRows fs ++ (bookend ∷ end) ≡ filesThen fs end
-unfolding fileRows
-files-are [] end = refl
-files-are (f ∷ fs) end = append-assoc (fileRows f) (joined fileRows fs) (bookend ∷ end) ∙ ap (λ (l : List Row). fileRows f ++ l) (files-are fs end)
-
-xorbs-are : (xs : List XorbBlock) (end : List Row) → joined xorbRows xs ++ (bookend ∷ end) ≡ xorbsThen xs end
-unfolding xorbRows
-xorbs-are [] end = refl
-xorbs-are (x ∷ xs) end = append-assoc (xorbRows x) (joined xorbRows xs) (bookend ∷ end) ∙ ap (λ (l : List Row). xorbRows x ++ l) (xorbs-are xs end)
-
-pub file-section : (s : Shard) (end : List Row) → fileSection s ++ end ≡ filesThen (s .files) end
-unfolding fileSection
-file-section s end = append-assoc (joined fileRows (s .files)) (bookend ∷ []) end ∙ files-are (s .files) end
-
-pub xorb-section : (s : Shard) → xorbSection s ≡ xorbsThen (s .xorbs) []
-unfolding xorbSection
-xorb-section s = xorbs-are (s .xorbs) []
+pub xorb-section : (s : Shard) → xorbSection s ≡ blocksThen xorbBlock (s .xorbs) []
+unfolding xorbSection xorbRows
+xorb-section s = blocks-are xorbBlock (s .xorbs) []
 
 -- ## Their kinds
 

@@ -2,7 +2,7 @@
 -- Assumes nothing.
 use mathlib.Core.Path.{_≡_, sym, ap, _∙_}
 use mathlib.Core.List.{List, [], _∷_, _++_, append-assoc}
-use Prim.Native.Nat.{ℕ, _+_, _*_, _≤_}
+use Prim.Native.Nat.{ℕ, _+_, _*_}
 use native.Mathlib.Omega.{arith}
 use lib.ListN.{length, take, drop, length-append, length-drop}
 use lib.Seq.{take-at, drop-at, drop-drop}
@@ -13,15 +13,11 @@ use Rattle.words.proofs.Records.{words-spell, length-words}
 use Rattle.rules.specs.Rules.{nextOf, start}
 use Rattle.rules.specs.declared.Place.{Place}
 use Rattle.rules.specs.declared.Record.{Record}
-use Rattle.layout.specs.Layout.{Each, Row, Shard, joined, listed, spellRows, spellFoot, xorbOffset, footerOffset, bytesOf, rowsOf, placed}
+use Rattle.layout.specs.Layout.{Each, Row, Shard, joined, ifAny, spellRows, spellFoot, xorbOffset, footerOffset, bytesOf, rowsOf, placed}
+use Rattle.layout.specs.Blocks.{Stand}
 use Rattle.layout.specs.Claim.{Spells}
 use Rattle.layout.proofs.Rows.{Goes, stepped}
 use Rattle.layout.proofs.ShardForth.{shard-go}
-
--- these rows stand in the bytes from a position on
-abbrev pub Stand : List ℕ → ℕ → List Row → Type 0
-Stand bytes at [] = Unit {0}
-Stand bytes at (r ∷ rs) = (wordsAt bytes at ≡ r .words) × (at + 48 ≤ length bytes) × Stand bytes (at + 48) rs
 
 -- behind the first of them
 pub stand-behind : (bytes : List ℕ) (at : ℕ) (xs ys : List Row) → Stand bytes at (xs ++ ys) → Stand bytes (at + 48 * length xs) ys
@@ -64,4 +60,4 @@ pub stand-shard : (tag bytes : List ℕ) (s : Shard) → Bytes tag → Spells ta
 unfolding bytesOf
 stand-shard tag bytes s b x =
     let o = shard-go tag s b (x .sound) in
-    stand-rows bytes 0 (rowsOf tag s) (joined (spellFoot (xorbOffset s) (footerOffset s)) (listed (s .footer))) (sym (x .spelled)) (whole-rows _ start (o .last) (rowsOf tag s) (o .goes))
+    stand-rows bytes 0 (rowsOf tag s) (joined (spellFoot (xorbOffset s) (footerOffset s)) (ifAny (s .footer))) (sym (x .spelled)) (whole-rows _ start (o .last) (rowsOf tag s) (o .goes))

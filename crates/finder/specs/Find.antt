@@ -8,9 +8,7 @@ use Rattle.words.specs.Record.{sameHash}
 use Rattle.rules.specs.declared.Record.{Record}
 use Rattle.rules.specs.declared.Kind.{Kind}
 use Rattle.rules.specs.declared.Kind.the-variants as kind
-use Rattle.rules.specs.declared.Verdict.{Verdict}
-use Rattle.rules.specs.declared.Verdict.the-variants as verdict
-use Rattle.layout.specs.Scan.{foundIn}
+use Rattle.layout.specs.Scan.{foundIn, ifAccepted}
 use Rattle.finder.specs.declared.FoundChunk.{FoundChunk}
 use Rattle.finder.specs.declared.FoundChunk.the-variants as chunk
 use Rattle.finder.specs.declared.FoundFile.{FoundFile}
@@ -35,12 +33,8 @@ unfoldable pub chunkIn : List ℕ → ℕ → ℕ → List Record → FoundChunk
 chunkIn hash blocks index [] = chunk.Absent
 chunkIn hash blocks index (r ∷ rs) = chunkAt (r .kind) hash blocks index r (λ b i. chunkIn hash b i rs)
 
-abbrev pub chunkBy : Verdict → FoundChunk → FoundChunk
-chunkBy (verdict.Accepted summary) found = found
-chunkBy (verdict.Refused refusal) found = chunk.Refused refusal
-
 unfoldable pub chunkFound : List ℕ → List ℕ → List ℕ → FoundChunk
-chunkFound tag bytes hash = chunkBy (foundIn tag bytes .verdict) (chunkIn hash 0 0 (foundIn tag bytes .records))
+chunkFound tag bytes hash = ifAccepted chunk.Refused (foundIn tag bytes .verdict) (λ s. chunkIn hash 0 0 (foundIn tag bytes .records))
 
 -- ## Files
 
@@ -61,12 +55,8 @@ unfoldable pub fileIn : List ℕ → ℕ → List Record → FoundFile
 fileIn hash files [] = file.Absent
 fileIn hash files (r ∷ rs) = fileAt (r .kind) hash files r (λ n. fileIn hash n rs)
 
-abbrev pub fileBy : Verdict → FoundFile → FoundFile
-fileBy (verdict.Accepted summary) found = found
-fileBy (verdict.Refused refusal) found = file.Refused refusal
-
 unfoldable pub fileFound : List ℕ → List ℕ → List ℕ → FoundFile
-fileFound tag bytes hash = fileBy (foundIn tag bytes .verdict) (fileIn hash 0 (foundIn tag bytes .records))
+fileFound tag bytes hash = ifAccepted file.Refused (foundIn tag bytes .verdict) (λ s. fileIn hash 0 (foundIn tag bytes .records))
 
 -- ## The 48 bytes at a position
 

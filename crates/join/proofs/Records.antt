@@ -8,7 +8,7 @@ use Rattle.words.specs.Checks.{pick}
 use Rattle.rules.specs.declared.Kind.{Kind}
 use Rattle.rules.specs.declared.Kind.the-variants as kind
 use Rattle.rules.specs.declared.Record.{Record}
-use Rattle.layout.specs.Layout.{Foot, Shard, Row, joined, listed, fileRows, xorbRows, bookend, fileSection, xorbSection, rowsOf, xorbOffset, footerOffset, footRecord, placed, recordsOf}
+use Rattle.layout.specs.Layout.{Foot, Shard, Row, joined, ifAny, fileRows, xorbRows, bookend, fileSection, xorbSection, rowsOf, xorbOffset, footerOffset, footRecord, placed, recordsOf}
 use Rattle.layout.specs.Scan.{Found}
 use Rattle.layout.proofs.BlockKinds.{Kinds, file-kinds, xorb-kinds}
 use Rattle.layout.proofs.Last.{Spelling}
@@ -50,7 +50,7 @@ module _ (these : Kind → Bool) where
     kinds-shard : (tag : List ℕ) (s : Shard) → s .footer ≡ none → ofKinds these (map unplaced (recordsOf tag s)) ≡ ofKinds these (joined fileRows (s .files)) ++ ofKinds these (joined xorbRows (s .xorbs))
     unfolding recordsOf
     kinds-shard tag s e =
-        ap (λ (o : Option Foot). ofKinds these (map unplaced (placed 0 (rowsOf tag s) ++ map (footRecord (xorbOffset s) (footerOffset s)) (listed o)))) e
+        ap (λ (o : Option Foot). ofKinds these (map unplaced (placed 0 (rowsOf tag s) ++ map (footRecord (xorbOffset s) (footerOffset s)) (ifAny o)))) e
         ∙ ap (λ (l : List Record). ofKinds these (map unplaced l)) (append-nil (placed 0 (rowsOf tag s))) ∙ ap (ofKinds these) (rows-placed 0 (rowsOf tag s)) ∙ kinds-rows tag s
 
 module _ (tag bytes : List ℕ) (s : Shard) (o : Spelling tag bytes s) (e : s .footer ≡ none) where

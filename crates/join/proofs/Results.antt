@@ -13,9 +13,9 @@ use Rattle.rules.specs.declared.Verdict.{Verdict}
 use Rattle.rules.specs.declared.Verdict.the-variants as verdict
 use Rattle.layout.specs.Layout.{Shard, has, lengthOf}
 use Rattle.layout.specs.Claim.{summaryFor}
-use Rattle.layout.specs.Scan.{Found, foundIn, IsAccepted}
+use Rattle.layout.specs.Scan.{Found, foundIn, IsAccepted, ifAccepted}
 use Rattle.layout.proofs.Last.{Spelling, spelling, tree-of}
-use Rattle.join.specs.Join.{joinedBytes, joinedLength, firstFlags, faultFor, ifAccepted, answerFor, joinOf, bufferOf}
+use Rattle.join.specs.Join.{joinedBytes, joinedLength, firstFlags, faultFor, answerFor, joinOf, bufferOf}
 use Rattle.join.specs.Claims.{joinTree, resultBy, resultOf, Joins, JoinsIn, Joinable}
 use Rattle.join.specs.declared.Joined.{Joined}
 use Rattle.join.specs.declared.Joined.the-variants.{Wrote, Refused}
@@ -29,7 +29,7 @@ joinable-of tag bytes s o e = record { summary = summaryFor s; accepted = ap (λ
 
 -- something is written only of two such shards
 both-by : (tag first second : List ℕ) (room size : ℕ) (v w : Verdict) → foundIn tag first .verdict ≡ v → foundIn tag second .verdict ≡ w
-    → ifAccepted v (λ s. ifAccepted w (λ t. answerFor s t first second room)) ≡ Wrote size → Joinable tag first × Joinable tag second
+    → ifAccepted Refused v (λ s. ifAccepted Refused w (λ t. answerFor s t first second room)) ≡ Wrote size → Joinable tag first × Joinable tag second
 unfolding answerFor
 both-by tag first second room size (verdict.Accepted s) (verdict.Accepted t) ev ew e =
     let (z, l) = answer-wrote (faultFor s t (same31 (firstFlags first) (firstFlags second)) (joinedLength first second) room) (joinedLength first second) size e in

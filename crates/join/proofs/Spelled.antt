@@ -10,7 +10,7 @@ use Rattle.words.specs.Record.{hashAt, spellWords}
 use Rattle.words.proofs.Numbers.{bytes-none, bytes-append}
 use Rattle.words.proofs.Records.{words-bytes}
 use Rattle.rules.specs.declared.Kind.the-variants as kind
-use Rattle.layout.specs.Layout.{Foot, Shard, Row, row, listed, joined, spellFoot, headerRow, fileRows, xorbRows, bookend, rowsOf, fileSection, xorbSection, spellRows, xorbOffset, footerOffset, bytesOf}
+use Rattle.layout.specs.Layout.{Foot, Shard, Row, row, ifAny, joined, spellFoot, headerRow, fileRows, xorbRows, bookend, rowsOf, fileSection, xorbSection, spellRows, xorbOffset, footerOffset, bytesOf}
 use Rattle.layout.proofs.ShardForth.{length-files, length-of}
 use Rattle.layout.proofs.Last.{Spelling}
 use Rattle.layout.proofs.Lists.{spell-append}
@@ -49,7 +49,7 @@ inOrder head end files xorbs = head ++ (files ++ (end ++ (xorbs ++ end)))
 head-bytes : (tag : List ℕ) (s : Shard) → s .footer ≡ none → spellWords (headerRow tag s .words) ≡ headBytes tag
 head-bytes tag s e = rw e
 
-end-bytes : (x h : ℕ) (o : Option Foot) → o ≡ none → joined (spellFoot x h) (listed o) ≡ []
+end-bytes : (x h : ℕ) (o : Option Foot) → o ≡ none → joined (spellFoot x h) (ifAny o) ≡ []
 end-bytes x h o e = rw e
 
 sections : (fs xs : List Row) → spellRows (fs ++ (bookend ∷ []) ++ (xs ++ (bookend ∷ []))) ≡ spellRows fs ++ (endBytes ++ (spellRows xs ++ endBytes))

@@ -9,9 +9,7 @@ use Rattle.words.specs.Le.{leAt, part}
 use Rattle.rules.specs.Rules.{limit, same31, start}
 use Rattle.rules.specs.Verdicts.{refusalAt}
 use Rattle.rules.specs.declared.Summary.{Summary}
-use Rattle.rules.specs.declared.Verdict.{Verdict}
-use Rattle.rules.specs.declared.Verdict.the-variants as verdict
-use Rattle.layout.specs.Scan.{foundIn}
+use Rattle.layout.specs.Scan.{foundIn, ifAccepted}
 use Rattle.layout.specs.Reach.{lastPlace}
 use Rattle.join.specs.declared.Joined.{Joined}
 use Rattle.join.specs.declared.Joined.the-variants.{Wrote, Refused}
@@ -76,14 +74,9 @@ unfoldable pub answerFor : Summary → Summary → List ℕ → List ℕ → ℕ
 answerFor s t first second room =
     answerBy (faultFor s t (same31 (firstFlags first) (firstFlags second)) (joinedLength first second) room) (joinedLength first second)
 
--- a refused shard gives its refusal
-abbrev pub ifAccepted : Verdict → (Summary → Joined) → Joined
-ifAccepted (verdict.Accepted summary) later = later summary
-ifAccepted (verdict.Refused refusal) later = Refused refusal
-
 -- the first shard's refusal, the second's, one of the four, or how many bytes were written
 unfoldable pub joinOf : List ℕ → List ℕ → List ℕ → ℕ → Joined
-joinOf tag first second room = ifAccepted (foundIn tag first .verdict) (λ s. ifAccepted (foundIn tag second .verdict) (λ t. answerFor s t first second room))
+joinOf tag first second room = ifAccepted Refused (foundIn tag first .verdict) (λ s. ifAccepted Refused (foundIn tag second .verdict) (λ t. answerFor s t first second room))
 
 -- ## The buffer
 

@@ -4,12 +4,9 @@ use mathlib.Core.List.{List, [], _∷_, _++_, map}
 use Prim.Native.Nat.{ℕ}
 use Rattle.rules.specs.declared.Kind.{Kind}
 use Rattle.rules.specs.declared.Kind.the-variants as kind
-use Rattle.layout.specs.Layout.{FileBlock, XorbBlock, Chunk, Row, Each, joined, members, listed, segmentRow, verificationRow, metadataRow, fileRows, chunkRows, xorbRows}
+use Rattle.layout.specs.Layout.{FileBlock, XorbBlock, Chunk, Row, Each, joined, members, ifAny, segmentRow, verificationRow, metadataRow, fileRows, chunkRows, xorbRows}
+use Rattle.layout.specs.Blocks.{entryRows}
 use Rattle.layout.proofs.Lists.{each-append}
-
--- what follows a file head
-abbrev pub entryRows : FileBlock → List Row
-entryRows f = map segmentRow (f .segments) ++ (map verificationRow (members (f .verifications)) ++ map metadataRow (listed (f .metadata)))
 
 module _ (P : Kind → Type 0) where
   abbrev pub Kinds : List Row → Type 0
@@ -28,10 +25,12 @@ module _ (P : Kind → Type 0) where
 
   -- ## File blocks
 
+  -- behind the segments
+  pub other-kinds : (f : FileBlock) → P kind.Verification → P kind.Metadata → Kinds (map verificationRow (members (f .verifications)) ++ map metadataRow (ifAny (f .metadata)))
+  other-kinds f v m = kinds-then (map verificationRow (members (f .verifications))) _ (kinds-map verificationRow (members (f .verifications)) (λ x. v)) (kinds-map metadataRow (ifAny (f .metadata)) (λ x. m))
+
   pub entry-kinds : (f : FileBlock) → P kind.Segment → P kind.Verification → P kind.Metadata → Kinds (entryRows f)
-  entry-kinds f s v m =
-      kinds-then (map segmentRow (f .segments)) _ (kinds-map segmentRow (f .segments) (λ x. s))
-      (kinds-then (map verificationRow (members (f .verifications))) _ (kinds-map verificationRow (members (f .verifications)) (λ x. v)) (kinds-map metadataRow (listed (f .metadata)) (λ x. m)))
+  entry-kinds f s v m = kinds-then (map segmentRow (f .segments)) _ (kinds-map segmentRow (f .segments) (λ x. s)) (other-kinds f v m)
 
   pub file-kinds : (fs : List FileBlock) → P kind.FileHead → P kind.Segment → P kind.Verification → P kind.Metadata → Kinds (joined fileRows fs)
   unfolding fileRows
@@ -39,7 +38,7 @@ module _ (P : Kind → Type 0) where
 
   -- ## Xorb blocks
 
-  chunk-kinds : (start : ℕ) (cs : List Chunk) → P kind.Chunk → Kinds (chunkRows start cs)
+  pub chunk-kinds : (start : ℕ) (cs : List Chunk) → P kind.Chunk → Kinds (chunkRows start cs)
   chunk-kinds start [] c = tt
   chunk-kinds start (k ∷ cs) c = (c, chunk-kinds _ cs c)
 

@@ -18,7 +18,7 @@ use Rattle.rules.specs.declared.Kind.{Kind}
 use Rattle.rules.specs.declared.Due.{Due}
 use Rattle.rules.specs.declared.Due.the-variants.{FileHead, Segment, Verification, Metadata}
 use Rattle.rules.specs.declared.Kind.the-variants as kind
-use Rattle.layout.specs.Layout.{Hash, has, listed, members, sumOf, Each, Row, row, segmentRow, verificationRow, metadataRow, SoundSegment, Matched}
+use Rattle.layout.specs.Layout.{Hash, has, ifAny, members, sumOf, Each, Row, row, segmentRow, verificationRow, metadataRow, SoundSegment, Matched}
 use Rattle.layout.specs.Layout as tree
 use Rattle.layout.proofs.Checks.{passed, tail-zero}
 use Rattle.layout.proofs.Entries.{Ended, not-yet, Entry, entries-go, EntriesBack, entries-back}
@@ -167,8 +167,8 @@ unfolding nextOf
 metadata-next p w = refl
 
 -- the metadata record, if bit 30 says that there is one
-pub metadata-go : (tag : List ℕ) (p : Place) (m : Option Hash) → bit30 (p .flags) ≡ has m → Each IsHash (listed m)
-    → Goes tag (dueAt (afterVerifications (p .flags)) p) (map metadataRow (listed m)) (onward (48 * length (listed m)) nothing FileHead p)
+pub metadata-go : (tag : List ℕ) (p : Place) (m : Option Hash) → bit30 (p .flags) ≡ has m → Each IsHash (ifAny m)
+    → Goes tag (dueAt (afterVerifications (p .flags)) p) (map metadataRow (ifAny m)) (onward (48 * length (ifAny m)) nothing FileHead p)
 metadata-go tag p none e ks =
     goes-from tag _ (dueAt FileHead p) _ [] (ap (λ (t : Bool). dueAt (pick t Metadata FileHead) p) e) (stay tag (onward-none FileHead p))
 metadata-go tag p (some h) e ks =
@@ -178,10 +178,10 @@ metadata-go tag p (some h) e ks =
 pub record MetadataBack (tag : List ℕ) (p q : Place) (rows : List Row) : Type 0 where
   pub hash : Option Hash
   pub bit : has hash ≡ bit30 (p .flags)
-  pub sound : Each IsHash (listed hash)
+  pub sound : Each IsHash (ifAny hash)
   pub rest : List Row
-  pub rows-are : rows ≡ map metadataRow (listed hash) ++ rest
-  pub goes : Goes tag (onward (48 * length (listed hash)) nothing FileHead p) rest q
+  pub rows-are : rows ≡ map metadataRow (ifAny hash) ++ rest
+  pub goes : Goes tag (onward (48 * length (ifAny hash)) nothing FileHead p) rest q
 
 pub metadata-back : (tag : List ℕ) (p q : Place) (rows : List Row) → Ended q → Goes tag (dueAt (afterVerifications (p .flags)) p) rows q → MetadataBack tag p q rows
 metadata-back tag p q rows z t = go (bit30 (p .flags)) refl rows t

@@ -19,7 +19,7 @@ use Rattle.rules.specs.declared.Place.{Place}
 use Rattle.rules.specs.declared.Due.the-variants.{FileHead}
 use Rattle.rules.specs.Rules as rules
 use Rattle.rules.specs.declared.Kind.the-variants as kind
-use Rattle.layout.specs.Layout.{joined, Hash, FileBlock, listed, members, sumOf, Each, Row, row, flagsOf, fileHeadRow, segmentRow, verificationRow, metadataRow, fileRows, bookend, Matched, SoundFile, verified}
+use Rattle.layout.specs.Layout.{joined, Hash, FileBlock, ifAny, members, sumOf, Each, Row, row, flagsOf, fileHeadRow, segmentRow, verificationRow, metadataRow, fileRows, bookend, Matched, SoundFile, verified}
 use Rattle.layout.specs.Layout as tree
 use Rattle.layout.proofs.FileEntries.{segments, VerificationsBack, verifications-back, MetadataBack, metadata-back}
 use Rattle.layout.proofs.FilesForth.{length-file, further}
@@ -89,7 +89,7 @@ file-back tag p q r rs z n t =
     let v : ℕ = length (members (ov .hashes)) in
     let p3 : Place = onward (48 * v) nothing FileHead p2 in
     let om : MetadataBack tag p3 q (ov .rest) = metadata-back tag p3 q (ov .rest) z (ov .goes) in
-    let m : ℕ = length (listed (om .hash)) in
+    let m : ℕ = length (ifAny (om .hash)) in
     let f : FileBlock = record { hash = r .words .hash; segments = ss; verifications = ov .hashes; metadata = om .hash } in
     let u : Totals = plus c d in
     let s : ℕ = 48 + 48 * b + 48 * v in
@@ -113,8 +113,8 @@ file-back tag p q r rs z n t =
       rest = om .rest;
       rows-are = ap₂ (λ (x : Row) (y : List Row). x ∷ y) head
           (os .rows-are ∙ ap (λ (y : List Row). map segmentRow ss ++ y) (ov .rows-are ∙ ap (λ (y : List Row). map verificationRow (members (ov .hashes)) ++ y) (om .rows-are)
-          ∙ sym (append-assoc (map verificationRow (members (ov .hashes))) (map metadataRow (listed (om .hash))) (om .rest)))
-          ∙ sym (append-assoc (map segmentRow ss) (map verificationRow (members (ov .hashes)) ++ map metadataRow (listed (om .hash))) (om .rest)));
+          ∙ sym (append-assoc (map verificationRow (members (ov .hashes))) (map metadataRow (ifAny (om .hash))) (om .rest)))
+          ∙ sym (append-assoc (map segmentRow ss) (map verificationRow (members (ov .hashes)) ++ map metadataRow (ifAny (om .hash))) (om .rest)));
       agree = says .agree;
       room = omega arith;
       goes = goes-from tag _ _ q (om .rest) (sym e4) (om .goes);

@@ -15,7 +15,7 @@ use Rattle.rules.specs.declared.Totals.{Totals}
 use Rattle.rules.specs.declared.Place.{Place}
 use Rattle.rules.specs.declared.Due.the-variants.{FileHead, Segment}
 use Rattle.rules.specs.Rules as rules
-use Rattle.layout.specs.Layout.{joined, Hash, FileBlock, has, listed, members, sumOf, Each, flagsOf, fileHeadRow, segmentRow, verificationRow, fileRows, Matched, SoundFile}
+use Rattle.layout.specs.Layout.{joined, Hash, FileBlock, has, ifAny, members, sumOf, Each, flagsOf, fileHeadRow, segmentRow, verificationRow, fileRows, Matched, SoundFile}
 use Rattle.layout.specs.Layout as tree
 use Rattle.layout.proofs.FileEntries.{segments, verifications-go, metadata-go}
 use Rattle.layout.proofs.Checks.{pass3}
@@ -24,18 +24,18 @@ use Rattle.layout.proofs.Entries.{entries-go}
 use Rattle.layout.proofs.Places.{dueAt, onward, onward-then, onward-none, intoFile}
 use Rattle.layout.proofs.Rows.{Good, Goes, stay, goes-append, goes-to, goes-cons}
 
-pub length-file : (f : FileBlock) → length (fileRows f) ≡ suc (length (f .segments) + (length (members (f .verifications)) + length (listed (f .metadata))))
+pub length-file : (f : FileBlock) → length (fileRows f) ≡ suc (length (f .segments) + (length (members (f .verifications)) + length (ifAny (f .metadata))))
 unfolding fileRows
 length-file f = simp (length-append, length-map)
 
 pub further : (f : FileBlock) → Matched (f .verifications) (length (f .segments))
-    → furtherRecords (flagsOf f) (length (f .segments)) ≡ length (f .segments) + (length (members (f .verifications)) + length (listed (f .metadata)))
+    → furtherRecords (flagsOf f) (length (f .segments)) ≡ length (f .segments) + (length (members (f .verifications)) + length (ifAny (f .metadata)))
 further f m = go (f .verifications) (f .metadata) m
   where
     n : ℕ
     n = length (f .segments)
 
-    go : (v : Option (List Hash)) (u : Option Hash) → Matched v n → furtherRecords (flagsBy (has v) (has u)) n ≡ n + (length (members v) + length (listed u))
+    go : (v : Option (List Hash)) (u : Option Hash) → Matched v n → furtherRecords (flagsBy (has v) (has u)) n ≡ n + (length (members v) + length (ifAny u))
     go none none m = omega arith
     go none (some u) m = omega arith
     go (some v) none m = omega (arith, m)
@@ -67,7 +67,7 @@ unfolding fileRows
 file-go tag p f h a l =
     let n : ℕ = length (f .segments) in
     let v : ℕ = length (members (f .verifications)) in
-    let m : ℕ = length (listed (f .metadata)) in
+    let m : ℕ = length (ifAny (f .metadata)) in
     let b : ℕ = sumOf (λ (g : tree.Segment). g .bytes) (f .segments) in
     let w : Place = withFile (flagsOf f) n p in
     let p1 : Place = onward 48 (counts 1 0 0 0 0) FileHead w in

@@ -19,7 +19,7 @@ use Rattle.rules.specs.declared.Due.{Due}
 use Rattle.rules.specs.declared.Due.the-variants.{Footer, End}
 use Rattle.rules.specs.declared.Place.{Place}
 use Rattle.rules.specs.declared.Record.{Record}
-use Rattle.layout.specs.Layout.{Foot, Shard, Each, has, listed, joined, spellFoot, footWords, rowsOf, xorbOffset, footerOffset, lengthOf, bytesOf, SoundFoot}
+use Rattle.layout.specs.Layout.{Foot, Shard, Each, has, ifAny, joined, spellFoot, footWords, rowsOf, xorbOffset, footerOffset, lengthOf, bytesOf, SoundFoot}
 use Rattle.layout.specs.Claim.{meaningOf, Spells}
 use Rattle.layout.specs.Reach.{placeOf, lastPlace}
 use Rattle.layout.specs.Scan.{Found, format, foundIn, IsAccepted}
@@ -38,8 +38,8 @@ tag-size tag bytes a = go (eqb (length tag) 32) refl
     go false e = absurd (subst (λ (f : Found). IsAccepted (f .verdict)) (bad-tag tag (eqb-false _ _ e) bytes) a)
 
 -- a footer leaves the offset as it is
-foot-keeps : (tag : List ℕ) (q : Place) (x h : ℕ) (o : Option Foot) → q .at .0 ≡ h → q .offset .0 ≡ x → q .due ≡ pick (has o) Footer End → h ≤ limit → x ≤ limit → Each SoundFoot (listed o)
-    → placeOf (run (format tag) (at q []) (joined (spellFoot x h) (listed o)) .state) .offset .0 ≡ x
+foot-keeps : (tag : List ℕ) (q : Place) (x h : ℕ) (o : Option Foot) → q .at .0 ≡ h → q .offset .0 ≡ x → q .due ≡ pick (has o) Footer End → h ≤ limit → x ≤ limit → Each SoundFoot (ifAny o)
+    → placeOf (run (format tag) (at q []) (joined (spellFoot x h) (ifAny o)) .state) .offset .0 ≡ x
 unfolding nextOf
 foot-keeps tag q x h none eh ex d lh lx ok = ap (λ (r : Run Place Record Place). placeOf (r .state) .offset .0) (run-nil (format tag) (at q [])) ∙ ex
 foot-keeps tag q x h (some g) eh ex d lh lx ok =
@@ -51,7 +51,7 @@ offset-is : (tag bytes : List ℕ) (s : Shard) → length tag ≡ 32 → Bytes t
 unfolding lastPlace bytesOf lengthOf footerOffset
 offset-is tag bytes s n t x =
     let o : ShardGo tag s = shard-go tag s t (x .sound) in
-    let rest : List ℕ = joined (spellFoot (xorbOffset s) (footerOffset s)) (listed (s .footer)) in
+    let rest : List ℕ = joined (spellFoot (xorbOffset s) (footerOffset s)) (ifAny (s .footer)) in
     ap (λ (r : Run Place Record Place). placeOf (r .state) .offset .0)
     (scan-starts tag n bytes ∙ ap (run (format (hashAt tag 0)) (at start [])) (sym (x .spelled)) ∙ run-rows (hashAt tag 0) start (o .last) (rowsOf tag s) rest (o .goes))
     ∙ foot-keeps (hashAt tag 0) (o .last) (xorbOffset s) (footerOffset s) (s .footer) (o .at) (o .offset) (o .due) (omega (arith, x .sound .short)) (omega (arith, x .sound .short)) (x .sound .footer)

@@ -21,3 +21,5 @@ pub mod States
 pub mod Last
 pub mod Lists
 pub mod BlockKinds
+pub mod Answers
+pub mod Leading

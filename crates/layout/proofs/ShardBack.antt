@@ -19,7 +19,7 @@ use Rattle.rules.specs.declared.Place.{Place}
 use Rattle.rules.specs.declared.Due.the-variants.{Header, FileHead, XorbHead, Footer, End}
 use Rattle.rules.specs.Rules as rules
 use Rattle.rules.specs.declared.Kind.the-variants as kind
-use Rattle.layout.specs.Layout.{joined, Hash, Foot, Shard, has, listed, Each, Row, row, fileRows, xorbRows, bookend, fileSection, xorbSection, rowsOf, xorbOffset, footerOffset, spellFoot, SoundFoot, Sound}
+use Rattle.layout.specs.Layout.{joined, Hash, Foot, Shard, has, ifAny, Each, Row, row, fileRows, xorbRows, bookend, fileSection, xorbSection, rowsOf, xorbOffset, footerOffset, spellFoot, SoundFoot, Sound}
 use Rattle.layout.proofs.Accepted.{a-footer, no-footer, Tail}
 use Rattle.layout.proofs.XorbsBack.{XorbsBack, xorbs-back}
 use Rattle.layout.proofs.ShardForth.{length-files, length-xorbs, length-of}
@@ -71,8 +71,8 @@ no-rows tag p q (r ∷ rs) t = absurd (no-size (p .footer) (stepped tag (pastXor
 record FootIs (b : Bool) (x h : ℕ) (rest : List ℕ) : Type 0 where
   foot : Option Foot
   is : has foot ≡ b
-  sound : Each SoundFoot (listed foot)
-  spelled : joined (spellFoot x h) (listed foot) ≡ rest
+  sound : Each SoundFoot (ifAny foot)
+  spelled : joined (spellFoot x h) (ifAny foot) ≡ rest
 
 foot-is : (b : Bool) (q : Place) (rest : List ℕ) → q .due ≡ pick b Footer End → Tail q rest → FootIs b (q .offset .0) (q .at .0) rest
 foot-is true q rest d (a-footer f l b z) =
@@ -93,7 +93,7 @@ pub record ShardBack (tag : List ℕ) (rows : List Row) (rest : List ℕ) : Type
   pub shard : Shard
   pub sound : Sound shard
   pub rows-are : rowsOf tag shard ≡ rows
-  pub rest-is : joined (spellFoot (xorbOffset shard) (footerOffset shard)) (listed (shard .footer)) ≡ rest
+  pub rest-is : joined (spellFoot (xorbOffset shard) (footerOffset shard)) (ifAny (shard .footer)) ≡ rest
 
 header-size-room : (b : Bool) → 48 + 96 + pick b 200 0 ≤ limit
 header-size-room true = lit≤ tt
@@ -130,7 +130,7 @@ assemble tag b q r rs rest head of ox empty o =
           (head ∙ ap (λ (c : Bool). row kind.Header (hashAt tag 0) 2 0 (pick c 200 0) 0) (sym (o .is)))
           (of .rows-are ∙ ap (λ (y : List Row). f ++ (bookend ∷ y)) (ox .rows-are ∙ ap (λ (y : List Row). x ++ (bookend ∷ y)) empty)
           ∙ sym (append-assoc f (bookend ∷ []) (x ++ (bookend ∷ [])))));
-      rest-is = ap₂ (λ (u v : ℕ). joined (spellFoot u v) (listed (o .foot))) xo fo ∙ o .spelled;
+      rest-is = ap₂ (λ (u v : ℕ). joined (spellFoot u v) (ifAny (o .foot))) xo fo ∙ o .spelled;
     }
 
 foot-at : {b : Bool} {x h x′ h′ : ℕ} {rest : List ℕ} → FootIs b x h rest → x ≡ x′ → h ≡ h′ → FootIs b x′ h′ rest

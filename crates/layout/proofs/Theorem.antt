@@ -24,7 +24,7 @@ use Rattle.rules.specs.declared.Due.{Due}
 use Rattle.rules.specs.declared.Verdict.{Verdict}
 use Rattle.rules.specs.declared.Due.the-variants.{Footer, End}
 use Rattle.rules.specs.declared.Verdict.the-variants as verdict
-use Rattle.layout.specs.Layout.{joined, footerSize, Foot, Shard, has, listed, Each, Row, headerRow, fileSection, xorbSection, rowsOf, xorbOffset, footerOffset, lengthOf, spellRows, spellFoot, bytesOf, placed, footRecord, recordsOf, SoundFoot, Sound, footWords}
+use Rattle.layout.specs.Layout.{joined, footerSize, Foot, Shard, has, ifAny, Each, Row, headerRow, fileSection, xorbSection, rowsOf, xorbOffset, footerOffset, lengthOf, spellRows, spellFoot, bytesOf, placed, footRecord, recordsOf, SoundFoot, Sound, footWords}
 use Rattle.layout.specs.Claim.{meaningOf, Spells, LayoutClaim}
 use Rattle.layout.specs.Scan.{format, Found, foundOf, foundIn, IsAccepted}
 use Rattle.layout.proofs.ShardForth.{ShardGo, shard-go}
@@ -56,9 +56,9 @@ foot-found tag q g d lx lh ok =
 
 -- what follows the second bookend: nothing, or the footer
 ending : (tag : List ℕ) (q : Place) (x h : ℕ) (o : Option Foot) → q .at .0 ≡ h → q .offset .0 ≡ x → q .due ≡ pick (has o) Footer End → q .footer ≡ has o
-    → h ≤ limit → x ≤ limit → Each SoundFoot (listed o)
-    → foundOf (run (format tag) (at q []) (joined (spellFoot x h) (listed o)))
-    ≡ record { records = map (footRecord x h) (listed o); verdict = verdict.Accepted (record { length = h + pick (has o) 200 0; totals = q .totals; footer = has o }) }
+    → h ≤ limit → x ≤ limit → Each SoundFoot (ifAny o)
+    → foundOf (run (format tag) (at q []) (joined (spellFoot x h) (ifAny o)))
+    ≡ record { records = map (footRecord x h) (ifAny o); verdict = verdict.Accepted (record { length = h + pick (has o) 200 0; totals = q .totals; footer = has o }) }
 unfolding verdictAt
 ending tag q x h none eh ex d f lh lx ok =
     ap foundOf (run-nil (format tag) (at q []))
@@ -87,21 +87,21 @@ header-bytes tag s n b =
 begins : (tag : List ℕ) (s : Shard) → length tag ≡ 32 → Bytes tag → take 48 (bytesOf tag s) ≡ tag ++ spell 8 2 ++ spell 8 (footerSize s)
 unfolding bytesOf rowsOf
 begins tag s n b =
-    ap (take 48) (append-assoc (spellWords (headerRow tag s .words)) (spellRows (fileSection s ++ xorbSection s)) (joined (spellFoot (xorbOffset s) (footerOffset s)) (listed (s .footer))))
+    ap (take 48) (append-assoc (spellWords (headerRow tag s .words)) (spellRows (fileSection s ++ xorbSection s)) (joined (spellFoot (xorbOffset s) (footerOffset s)) (ifAny (s .footer))))
     ∙ take-at (spellWords (headerRow tag s .words)) _ 48 (length-words (headerRow tag s .words)) ∙ header-bytes tag s n b
 
 pub length-rows : (rs : List Row) → length (spellRows rs) ≡ 48 * length rs
 length-rows [] = refl
 length-rows (r ∷ rs) = length-append (spellWords (r .words)) (spellRows rs) ∙ (let e : length (spellRows rs) ≡ 48 * length rs = length-rows rs in omega (arith, length-words (r .words)))
 
-length-end : (x h : ℕ) (o : Option Foot) → length (joined (spellFoot x h) (listed o)) ≡ pick (has o) 200 0
+length-end : (x h : ℕ) (o : Option Foot) → length (joined (spellFoot x h) (ifAny o)) ≡ pick (has o) 200 0
 length-end x h none = refl
 length-end x h (some f) = ap length (append-nil (spellFoot x h f)) ∙ length-footer x h (footWords f)
 
 long : (tag : List ℕ) (s : Shard) → length (bytesOf tag s) ≡ lengthOf s
 unfolding bytesOf rowsOf lengthOf footerOffset xorbOffset
 long tag s =
-    length-append (spellRows (headerRow tag s ∷ (fileSection s ++ xorbSection s))) (joined (spellFoot (xorbOffset s) (footerOffset s)) (listed (s .footer)))
+    length-append (spellRows (headerRow tag s ∷ (fileSection s ++ xorbSection s))) (joined (spellFoot (xorbOffset s) (footerOffset s)) (ifAny (s .footer)))
     ∙ omega (arith, length-rows (headerRow tag s ∷ (fileSection s ++ xorbSection s)), length-append (fileSection s) (xorbSection s), length-end (xorbOffset s) (footerOffset s) (s .footer))
 
 module _ (tag : List ℕ) (tag-size : length tag ≡ 32) (tag-bytes : Bytes tag) where
@@ -114,11 +114,11 @@ module _ (tag : List ℕ) (tag-size : length tag ≡ 32) (tag-bytes : Bytes tag)
       let h : ℕ = footerOffset s in
       let o : ShardGo tag s = shard-go tag s tag-bytes ok in
       let lx : x ≤ h = xorb-le s in
-      let r : run (format t) (at start []) (spellRows (rowsOf tag s) ++ joined (spellFoot x h) (listed (s .footer)))
-      ≡ thenRun (placed 0 (rowsOf tag s)) (run (format t) (at (o .last) []) (joined (spellFoot x h) (listed (s .footer))))
-      = run-rows t start (o .last) (rowsOf tag s) (joined (spellFoot x h) (listed (s .footer))) (o .goes) in
+      let r : run (format t) (at start []) (spellRows (rowsOf tag s) ++ joined (spellFoot x h) (ifAny (s .footer)))
+      ≡ thenRun (placed 0 (rowsOf tag s)) (run (format t) (at (o .last) []) (joined (spellFoot x h) (ifAny (s .footer))))
+      = run-rows t start (o .last) (rowsOf tag s) (joined (spellFoot x h) (ifAny (s .footer))) (o .goes) in
       let e = ending t (o .last) x h (s .footer) (o .at) (o .offset) (o .due) (o .footer) (omega arith) (omega arith) (ok .footer) in
-      ap foundOf (scan-starts tag tag-size (spellRows (rowsOf tag s) ++ joined (spellFoot x h) (listed (s .footer))) ∙ r)
+      ap foundOf (scan-starts tag tag-size (spellRows (rowsOf tag s) ++ joined (spellFoot x h) (ifAny (s .footer))) ∙ r)
       ∙ found-same (ap (λ (f : Found). placed 0 (rowsOf tag s) ++ f .records) e) (ap (λ (f : Found). f .verdict) e ∙ accepted-same refl (o .totals) refl)
 
   -- TWO: accepted bytes are those of a sound shard

@@ -9,7 +9,7 @@ use lib.ListN.{length, length-map}
 use Rattle.rules.specs.Rules.{bit31, bit30}
 use Rattle.rules.specs.declared.Record.{Record}
 use Rattle.rules.specs.declared.Kind.the-variants as kind
-use Rattle.layout.specs.Layout.{joined, Hash, FileBlock, XorbBlock, Foot, Shard, has, listed, members, Each, Row, headerRow, flagsOf, fileHeadRow, segmentRow, verificationRow, metadataRow, fileRows, xorbHeadRow, chunkRows, xorbRows, bookend, fileSection, xorbSection, rowsOf, xorbOffset, footerOffset, placed, footWords, footRecord, recordsOf, Matched, SoundFile, SoundXorb, Sound}
+use Rattle.layout.specs.Layout.{joined, Hash, FileBlock, XorbBlock, Foot, Shard, has, ifAny, members, Each, Row, headerRow, flagsOf, fileHeadRow, segmentRow, verificationRow, metadataRow, fileRows, xorbHeadRow, chunkRows, xorbRows, bookend, fileSection, xorbSection, rowsOf, xorbOffset, footerOffset, placed, footWords, footRecord, recordsOf, Matched, SoundFile, SoundXorb, Sound}
 use Rattle.layout.specs.Layout as tree
 use Rattle.layout.proofs.XorbsForth.{length-chunks}
 use Rattle.layout.proofs.Flags.{flags-31, flags-30}
@@ -86,17 +86,17 @@ members-same none (some w) e p = absurd (false≢true e)
 members-same (some v) none e p = absurd (true≢false e)
 members-same (some v) (some w) e p = ap some p
 
-listed-length : {A : Type 0} (v w : Option A) → has v ≡ has w → length (listed v) ≡ length (listed w)
-listed-length none none e = refl
-listed-length none (some w) e = absurd (false≢true e)
-listed-length (some v) none e = absurd (true≢false e)
-listed-length (some v) (some w) e = refl
+any-length : {A : Type 0} (v w : Option A) → has v ≡ has w → length (ifAny v) ≡ length (ifAny w)
+any-length none none e = refl
+any-length none (some w) e = absurd (false≢true e)
+any-length (some v) none e = absurd (true≢false e)
+any-length (some v) (some w) e = refl
 
-listed-same : {A : Type 0} (v w : Option A) → listed v ≡ listed w → v ≡ w
-listed-same none none e = refl
-listed-same none (some w) e = let z : _≡_ {A = ℕ} 0 1 = ap length e in absurd (omega arith)
-listed-same (some v) none e = let z : _≡_ {A = ℕ} 1 0 = ap length e in absurd (omega arith)
-listed-same (some v) (some w) e = ap some (cons-head v w [] [] e)
+any-same : {A : Type 0} (v w : Option A) → ifAny v ≡ ifAny w → v ≡ w
+any-same none none e = refl
+any-same none (some w) e = let z : _≡_ {A = ℕ} 0 1 = ap length e in absurd (omega arith)
+any-same (some v) none e = let z : _≡_ {A = ℕ} 1 0 = ap length e in absurd (omega arith)
+any-same (some v) (some w) e = ap some (cons-head v w [] [] e)
 
 -- ## Files
 
@@ -107,8 +107,8 @@ file-one f g x y hf hg e =
     let sg : List Row = map segmentRow (g .segments) in
     let vf : List Row = map verificationRow (members (f .verifications)) in
     let vg : List Row = map verificationRow (members (g .verifications)) in
-    let mf : List Row = map metadataRow (listed (f .metadata)) in
-    let mg : List Row = map metadataRow (listed (g .metadata)) in
+    let mf : List Row = map metadataRow (ifAny (f .metadata)) in
+    let mg : List Row = map metadataRow (ifAny (g .metadata)) in
     let head : fileHeadRow f ≡ fileHeadRow g = cons-head (fileHeadRow f) (fileHeadRow g) ((sf ++ (vf ++ mf)) ++ x) ((sg ++ (vg ++ mg)) ++ y) e in
     let fl : flagsOf f ≡ flagsOf g = ap (λ (r : Row). r .words .a) head in
     let n : length (f .segments) ≡ length (g .segments) = ap (λ (r : Row). r .words .b) head in
@@ -121,11 +121,11 @@ file-one f g x y hf hg e =
     let lv : length (members (f .verifications)) ≡ length (members (g .verifications))
     = members-length (f .verifications) (g .verifications) (length (f .segments)) hv (hf .matched) (subst (Matched (g .verifications)) (sym n) (hg .matched)) in
     let (ev, e3) = split-same vf vg (mf ++ x) (mg ++ y) (length-map (members (f .verifications)) verificationRow ∙ lv ∙ sym (length-map (members (g .verifications)) verificationRow)) e2 in
-    let (em, e4) = split-same mf mg x y (length-map (listed (f .metadata)) metadataRow ∙ listed-length (f .metadata) (g .metadata) hm ∙ sym (length-map (listed (g .metadata)) metadataRow)) e3 in (
+    let (em, e4) = split-same mf mg x y (length-map (ifAny (f .metadata)) metadataRow ∙ any-length (f .metadata) (g .metadata) hm ∙ sym (length-map (ifAny (g .metadata)) metadataRow)) e3 in (
       file-same (ap (λ (r : Row). r .words .hash) head)
           (map-same segmentRow segmentIn (λ a. refl) (f .segments) (g .segments) es)
           (members-same (f .verifications) (g .verifications) hv (map-same verificationRow hashIn (λ a. refl) (members (f .verifications)) (members (g .verifications)) ev))
-          (listed-same (f .metadata) (g .metadata) (map-same metadataRow hashIn (λ a. refl) (listed (f .metadata)) (listed (g .metadata)) em)),
+          (any-same (f .metadata) (g .metadata) (map-same metadataRow hashIn (λ a. refl) (ifAny (f .metadata)) (ifAny (g .metadata)) em)),
       e4,
     )
 
@@ -185,13 +185,13 @@ rows-in : (at : ℕ) (rs : List Row) (more : List Record) → rowsIn (placed at 
 rows-in at [] more = refl
 rows-in at (r ∷ rs) more = ap (λ (l : List Row). r ∷ l) (rows-in (at + 48) rs more)
 
-foot-rows : (x h : ℕ) (o : Option Foot) → rowsIn (map (footRecord x h) (listed o)) ≡ map footRow (listed o)
+foot-rows : (x h : ℕ) (o : Option Foot) → rowsIn (map (footRecord x h) (ifAny o)) ≡ map footRow (ifAny o)
 foot-rows x h none = refl
 foot-rows x h (some f) = refl
 
-all-rows : (tag : List ℕ) (s : Shard) → rowsIn (recordsOf tag s) ≡ rowsOf tag s ++ map footRow (listed (s .footer))
+all-rows : (tag : List ℕ) (s : Shard) → rowsIn (recordsOf tag s) ≡ rowsOf tag s ++ map footRow (ifAny (s .footer))
 unfolding recordsOf
-all-rows tag s = rows-in 0 (rowsOf tag s) (map (footRecord (xorbOffset s) (footerOffset s)) (listed (s .footer)))
+all-rows tag s = rows-in 0 (rowsOf tag s) (map (footRecord (xorbOffset s) (footerOffset s)) (ifAny (s .footer)))
     ∙ ap (λ (l : List Row). rowsOf tag s ++ l) (foot-rows (xorbOffset s) (footerOffset s) (s .footer))
 
 regroup : (a c f : List Row) (b d : Row) → ((a ++ (b ∷ [])) ++ (c ++ (d ∷ []))) ++ f ≡ a ++ (b ∷ (c ++ (d ∷ f)))
@@ -208,11 +208,11 @@ shard-one tag s t hs ht e =
     let ft : List Row = joined fileRows (t .files) in
     let xs : List Row = joined xorbRows (s .xorbs) in
     let xt : List Row = joined xorbRows (t .xorbs) in
-    let os : List Row = map footRow (listed (s .footer)) in
-    let ot : List Row = map footRow (listed (t .footer)) in
+    let os : List Row = map footRow (ifAny (s .footer)) in
+    let ot : List Row = map footRow (ifAny (t .footer)) in
     let e0 : rowsOf tag s ++ os ≡ rowsOf tag t ++ ot = sym (all-rows tag s) ∙ ap rowsIn e ∙ all-rows tag t in
     let e1 : ((fs ++ (bookend ∷ [])) ++ (xs ++ (bookend ∷ []))) ++ os ≡ ((ft ++ (bookend ∷ [])) ++ (xt ++ (bookend ∷ []))) ++ ot
     = cons-tail (headerRow tag s) (headerRow tag t) _ _ e0 in
     let (a, e2) = blocks-one SoundFile fileRows file-one file-head-not (s .files) (t .files) (xs ++ (bookend ∷ os)) (xt ++ (bookend ∷ ot)) (hs .files) (ht .files) (sym (regroup fs xs os bookend bookend) ∙ e1 ∙ regroup ft xt ot bookend bookend) in
     let (b, e3) = blocks-one SoundXorb xorbRows xorb-one xorb-head-not (s .xorbs) (t .xorbs) os ot (hs .xorbs) (ht .xorbs) e2 in
-    shard-same a b (listed-same (s .footer) (t .footer) (map-same footRow footIn foot-in (listed (s .footer)) (listed (t .footer)) e3))
+    shard-same a b (any-same (s .footer) (t .footer) (map-same footRow footIn foot-in (ifAny (s .footer)) (ifAny (t .footer)) e3))

@@ -63,9 +63,9 @@ module _ {A : Type 0} where
   has none = false
   has (some x) = true
 
-  abbrev pub listed : Option A → List A
-  listed none = []
-  listed (some x) = x ∷ []
+  abbrev pub ifAny : Option A → List A
+  ifAny none = []
+  ifAny (some x) = x ∷ []
 
   abbrev pub members : Option (List A) → List A
   members none = []
@@ -116,7 +116,7 @@ metadataRow h = row kind.Metadata h 0 0 0 0
 
 -- a head, n segments, n verifications or none, one metadata record or none
 unfoldable pub fileRows : FileBlock → List Row
-fileRows f = fileHeadRow f ∷ (map segmentRow (f .segments) ++ (map verificationRow (members (f .verifications)) ++ map metadataRow (listed (f .metadata))))
+fileRows f = fileHeadRow f ∷ (map segmentRow (f .segments) ++ (map verificationRow (members (f .verifications)) ++ map metadataRow (ifAny (f .metadata))))
 
 abbrev pub bytesIn : List Chunk → ℕ
 bytesIn chunks = sumOf (λ c. c .bytes) chunks
@@ -172,7 +172,7 @@ spellFoot xorbs here f = spellFooter xorbs here (footWords f)
 
 -- the bytes of a shard
 unfoldable pub bytesOf : List ℕ → Shard → List ℕ
-bytesOf tag s = spellRows (rowsOf tag s) ++ joined (spellFoot (xorbOffset s) (footerOffset s)) (listed (s .footer))
+bytesOf tag s = spellRows (rowsOf tag s) ++ joined (spellFoot (xorbOffset s) (footerOffset s)) (ifAny (s .footer))
 
 -- ## Its records and totals
 
@@ -185,7 +185,7 @@ abbrev pub footRecord : ℕ → ℕ → Foot → Record
 footRecord xorbs here f = record { at = record { 0 = here }; offset = record { 0 = xorbs }; words = footWords f; kind = kind.Footer }
 
 unfoldable pub recordsOf : List ℕ → Shard → List Record
-recordsOf tag s = placed 0 (rowsOf tag s) ++ map (footRecord (xorbOffset s) (footerOffset s)) (listed (s .footer))
+recordsOf tag s = placed 0 (rowsOf tag s) ++ map (footRecord (xorbOffset s) (footerOffset s)) (ifAny (s .footer))
 
 unfoldable pub totalsOf : Shard → Totals
 totalsOf s = record {
@@ -215,7 +215,7 @@ pub record SoundFile (f : FileBlock) : Type 0 where
   pub segments : Each SoundSegment (f .segments)
   pub verifications : Each IsHash (members (f .verifications))
   pub matched : Matched (f .verifications) (length (f .segments))
-  pub metadata : Each IsHash (listed (f .metadata))
+  pub metadata : Each IsHash (ifAny (f .metadata))
 
 pub record SoundChunk (c : Chunk) : Type 0 where
   pub hash : IsHash (c .hash)
@@ -244,5 +244,5 @@ pub record Sound (s : Shard) : Type 0 where
   pub files : Each SoundFile (s .files)
   pub agree : Agree (s .files)
   pub xorbs : Each SoundXorb (s .xorbs)
-  pub footer : Each SoundFoot (listed (s .footer))
+  pub footer : Each SoundFoot (ifAny (s .footer))
   pub short : lengthOf s ≤ limit

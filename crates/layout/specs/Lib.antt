@@ -4,3 +4,4 @@ pub mod Claim
 pub mod Refusal
 pub mod Reach
 pub mod Quay
+pub mod Blocks

@@ -11,6 +11,8 @@ use Rattle.rules.specs.Verdicts.{refused, verdictAt}
 use Rattle.rules.specs.declared.Totals.{Totals}
 use Rattle.rules.specs.declared.Place.{Place}
 use Rattle.rules.specs.declared.Record.{Record}
+use Rattle.rules.specs.declared.Refusal.{Refusal}
+use Rattle.rules.specs.declared.Summary.{Summary}
 use Rattle.rules.specs.declared.Verdict.{Verdict}
 use Rattle.rules.specs.declared.Verdict.the-variants as verdict
 
@@ -54,9 +56,18 @@ foundOf r = record { records = r .recs; verdict = verdictOf (r .state) }
 unfoldable pub foundIn : List ℕ → List ℕ → Found
 foundIn tag bytes = foundOf (scan tag bytes)
 
+-- ## By the verdict
+
 abbrev pub IsAccepted : Verdict → Type 0
 IsAccepted (verdict.Accepted summary) = Unit {0}
 IsAccepted (verdict.Refused refusal) = ⊥
+
+-- a refused shard gives its refusal; what else is answered may depend on what is said of an accepted one
+abbrev pub ifAccepted : {A : Type 0} → (Refusal → A) → Verdict → (Summary → A) → A
+ifAccepted refused (verdict.Accepted summary) answer = answer summary
+ifAccepted refused (verdict.Refused refusal) answer = refused refusal
+
+-- ## Totals
 
 -- totals with one more record
 abbrev pub withRecord : Totals → Record → Totals

@@ -11,28 +11,24 @@ use lib.Dec.{leb, ltb}
 use lib.ListN.{length}
 use borrow.Author.Tests.{ltb-true, ltb-false, leb-true, leb-false}
 use Rattle.rules.specs.declared.Refusal.{Refusal}
-use Rattle.rules.specs.declared.Verdict.{Verdict}
 use Rattle.rules.specs.declared.Verdict.the-variants as verdict
 use Rattle.layout.specs.Layout.{Segment}
 use Rattle.layout.specs.Scan.{foundIn, IsAccepted}
-use Rattle.plan.specs.Plan.{Plan, fetch, refused, refusedWith, rowsFor, fileBytes, segmentsIn, planFor, planBy, planOf}
+use Rattle.layout.proofs.Answers.{if-accepted, if-refused}
+use Rattle.plan.specs.Plan.{Plan, fetch, refused, refusedWith, rowsFor, fileBytes, segmentsIn, planFor, planOf}
 use Rattle.plan.specs.Claims.{InFile}
 use Rattle.plan.specs.declared.Row.{Row}
 
 -- ## By the shard
 
-by-accepted : (v : Verdict) (p : Plan) → IsAccepted v → planBy v p ≡ p
-by-accepted (verdict.Accepted s) p a = refl
-by-accepted (verdict.Refused r) p a = absurd a
-
 module _ (tag bytes : List ℕ) (file a b room : ℕ) where
   pub plan-refused : (r : Refusal) → foundIn tag bytes .verdict ≡ verdict.Refused r → planOf tag bytes file a b room ≡ refused r
   unfolding planOf
-  plan-refused r e = ap (λ (v : Verdict). planBy v (planFor (segmentsIn file (foundIn tag bytes .records)) a b room)) e
+  plan-refused r e = if-refused refused (foundIn tag bytes .verdict) (λ s. planFor (segmentsIn file (foundIn tag bytes .records)) a b room) r e
 
   pub plan-found : (o : Option (List Segment)) → IsAccepted (foundIn tag bytes .verdict) → segmentsIn file (foundIn tag bytes .records) ≡ o → planOf tag bytes file a b room ≡ planFor o a b room
   unfolding planOf
-  plan-found o y e = by-accepted (foundIn tag bytes .verdict) _ y ∙ ap (λ (segments : Option (List Segment)). planFor segments a b room) e
+  plan-found o y e = if-accepted refused (foundIn tag bytes .verdict) _ y ∙ ap (λ (segments : Option (List Segment)). planFor segments a b room) e
 
 -- ## By a file that is there
 

@@ -11,7 +11,8 @@ use Rattle.words.specs.Checks.{pick}
 use Rattle.words.specs.Record.{wordsAt}
 use Rattle.words.specs.declared.Words.{Words}
 use Rattle.layout.specs.Layout.{Segment}
-use Rattle.plan.specs.Plan.{segmentOf, rowsFor, fileBytes}
+use Rattle.layout.specs.Blocks.{segmentOf}
+use Rattle.plan.specs.Plan.{rowsFor, fileBytes}
 use Rattle.plan.specs.Walk.{shareOf, segmentsFrom, rowsLeft, measureOf}
 use Rattle.plan.specs.declared.Row.{Row}
 use Rattle.plan.specs.declared.rows.Share.{Share}

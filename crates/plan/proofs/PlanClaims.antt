@@ -8,12 +8,11 @@ use native.Mathlib.Omega.{arith}
 use lib.ListN.{length, take, drop}
 use lib.Seq.{take-at, drop-at}
 use Rattle.words.specs.Le.{Bytes}
-use Rattle.rules.specs.declared.Verdict.{Verdict}
-use Rattle.rules.specs.declared.Verdict.the-variants as verdict
 use Rattle.layout.specs.Layout.{Segment, FileBlock, Shard, has, sumOf, joined}
 use Rattle.layout.specs.Scan.{Found, foundIn, IsAccepted}
 use Rattle.layout.proofs.Last.{tag-size, Spelling, spelling, tree-of}
-use Rattle.plan.specs.Plan.{Plan, fetch, refused, rowsFor, segmentsAt, segmentsIn, planFor, planBy, planOf, answerTo, tableTo}
+use Rattle.layout.proofs.Answers.{was-accepted}
+use Rattle.plan.specs.Plan.{Plan, fetch, refused, rowsFor, segmentsAt, segmentsIn, planFor, planOf, answerTo, tableTo}
 use Rattle.plan.specs.Claims.{InFile, Delivers, fetched, PlanClaim}
 use Rattle.plan.specs.declared.Row.{Row}
 use Rattle.plan.specs.declared.Planned.{Planned}
@@ -68,11 +67,9 @@ module _ (tag bytes : List ℕ) (file a b n : ℕ) (table : List Row) (answers :
   -- a shard that is refused answers no rows
   accepted : IsAccepted (foundIn tag bytes .verdict)
   unfolding planOf
-  accepted = go (foundIn tag bytes .verdict) answers
-    where
-      go : (v : Verdict) → answerTo (planBy v (planFor (segmentsIn file (foundIn tag bytes .records)) a b (length table))) ≡ planned.Rows n → IsAccepted v
-      go (verdict.Accepted s) e = tt
-      go (verdict.Refused r) e = absurd (omega (arith, ap counted e))
+  accepted =
+      was-accepted refused (λ (p : Plan). answerTo p ≡ planned.Rows n) (foundIn tag bytes .verdict) (λ s. planFor (segmentsIn file (foundIn tag bytes .records)) a b (length table))
+      (λ r e. absurd (omega (arith, ap counted e))) answers
 
   delivered : Bytes tag → Bytes bytes → Delivers tag bytes file a b n table (tableTo (planOf tag bytes file a b (length table)) table)
   delivered t b′ =

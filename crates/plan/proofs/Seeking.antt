@@ -17,15 +17,14 @@ use Rattle.rules.specs.declared.Refusal.{Refusal}
 use Rattle.rules.specs.declared.Summary.{Summary}
 use Rattle.rules.specs.declared.Verdict.{Verdict}
 use Rattle.rules.specs.declared.Verdict.the-variants as verdict
-use Rattle.layout.specs.Layout.{Segment, FileBlock, Row, Each, listed, members, segmentRow, verificationRow, metadataRow, rowsOf, xorbSection, SoundFile}
+use Rattle.layout.specs.Layout.{Segment, FileBlock, Row, Each, ifAny, members, segmentRow, verificationRow, metadataRow, rowsOf, xorbSection, SoundFile}
+use Rattle.layout.specs.Blocks.{fileBlock, blocksThen, Stand, segmentOf}
 use Rattle.layout.specs.Scan.{foundIn, IsAccepted}
 use Rattle.layout.specs.Reach.{lastPlace}
-use Rattle.reader.proofs.Whole.{verdict-said}
-use Rattle.finder.proofs.Standing.{Stand}
-use Rattle.finder.proofs.Sections.{filesThen, file-section}
-use Rattle.finder.proofs.FileHeads.{Head, head-room, at-bookend, at-head, next-due}
-use Rattle.finder.proofs.Begin.{Accepted, accepted}
-use Rattle.plan.specs.Plan.{segmentOf, segmentsAt, segmentsIn}
+use Rattle.finder.proofs.Sections.{file-section}
+use Rattle.finder.proofs.Heads.{file-heads, Head, head-room, at-bookend, at-head, next-due}
+use Rattle.finder.proofs.Begin.{Accepted, accepted, verdict-is}
+use Rattle.plan.specs.Plan.{segmentsAt, segmentsIn}
 use Rattle.plan.specs.Walk.{segmentsFrom, Within, SegmentsThere, NoneThere}
 use Rattle.plan.proofs.Tree.{in-bytes}
 
@@ -35,7 +34,7 @@ pub record HeadsLeft (tag bytes : List ℕ) (file at left : ℕ) : Type 0 where
   pub files : List FileBlock
   pub later : List Row
   pub sound : Each SoundFile files
-  pub stand : Stand bytes at (filesThen files later)
+  pub stand : Stand bytes at (blocksThen fileBlock files later)
   pub says : segmentsIn file (foundIn tag bytes .records) ≡ segmentsAt left files
   pub short : length bytes ≤ limit
 
@@ -58,7 +57,7 @@ segments-within bytes at (s ∷ ss) others r (w, l, h) = omega (arith, segments-
 module _ (tag bytes : List ℕ) (file at left : ℕ) (c : HeadsLeft tag bytes file at left) where
   -- a record is there
   pub heads-room : at + 48 ≤ length bytes
-  heads-room = head-room bytes at (c .later) (c .files) (c .stand)
+  heads-room = head-room file-heads bytes at (c .later) (c .files) (c .stand)
 
   -- what is known of the files that are left
   abbrev Says : List FileBlock → Type 0
@@ -67,25 +66,25 @@ module _ (tag bytes : List ℕ) (file at left : ℕ) (c : HeadsLeft tag bytes fi
   module _ (w : Words) (read : w ≡ wordsAt bytes at) where
     -- the bookend: there is no such file
     pub no-head : isOnes (w .hash) ≡ true → NoneThere tag bytes file
-    no-head e = record { accepted = c .accepted; found = subst Says (at-bookend bytes at (c .later) w read (c .files) (c .sound) (c .stand) e) (c .says) }
+    no-head e = record { accepted = c .accepted; found = subst Says (at-bookend file-heads bytes at (c .later) w read (c .files) (c .sound) (c .stand) e) (c .says) }
 
     module _ (e : isOnes (w .hash) ≡ false) where
-      head : Head bytes at (c .later) w read (c .files)
-      head = at-head bytes at (c .later) w read (c .files) (c .sound) (c .stand) e
+      head : Head file-heads bytes at (c .later) w read (c .files)
+      head = at-head file-heads bytes at (c .later) w read (c .files) (c .sound) (c .stand) e
 
-      says : Says (head .file ∷ head .others)
+      says : Says (head .block ∷ head .others)
       says = subst Says (head .are) (c .says)
 
       -- its segments are behind it
       pub head-hit : left ≡ 0 → SegmentsThere tag bytes file (at + 48) (w .b)
       head-hit z =
-          let ss : List Segment = head .file .segments in
-          let others : List Row = (map verificationRow (members (head .file .verifications)) ++ map metadataRow (listed (head .file .metadata))) ++ filesThen (head .others) (c .later) in
-          let t : Stand bytes (at + 48) (map segmentRow ss ++ others) = subst (Stand bytes (at + 48)) (append-assoc (map segmentRow ss) _ (filesThen (head .others) (c .later))) (head .stand) in
+          let ss : List Segment = head .block .segments in
+          let others : List Row = (map verificationRow (members (head .block .verifications)) ++ map metadataRow (ifAny (head .block .metadata))) ++ blocksThen fileBlock (head .others) (c .later) in
+          let t : Stand bytes (at + 48) (map segmentRow ss ++ others) = subst (Stand bytes (at + 48)) (append-assoc (map segmentRow ss) _ (blocksThen fileBlock (head .others) (c .later))) (head .stand) in
           let n : w .b ≡ length ss = ap (λ (v : Words). v .b) (head .words) in
           record {
             accepted = c .accepted;
-            found = says ∙ ap (λ (m : ℕ). segmentsAt m (head .file ∷ head .others)) z ∙ ap some (sym (ap (segmentsFrom bytes (at + 48)) n ∙ segments-read bytes (at + 48) ss others t));
+            found = says ∙ ap (λ (m : ℕ). segmentsAt m (head .block ∷ head .others)) z ∙ ap some (sym (ap (segmentsFrom bytes (at + 48)) n ∙ segments-read bytes (at + 48) ss others t));
             within = rw n (segments-within bytes (at + 48) ss others heads-room t);
           }
 
@@ -96,8 +95,8 @@ module _ (tag bytes : List ℕ) (file at left : ℕ) (c : HeadsLeft tag bytes fi
         files = head .others;
         later = c .later;
         sound = head .sound;
-        stand = next-due bytes at (c .later) w read (c .files) head (at + 48 + 48 * m) (omega arith);
-        says = says ∙ one-passed left z (head .file) (head .others);
+        stand = next-due file-heads bytes at (c .later) w read (c .files) head (at + 48 + 48 * m) (omega arith);
+        says = says ∙ one-passed left z (head .block) (head .others);
         short = c .short;
       }
 
@@ -119,11 +118,8 @@ heads-begin tag bytes file t b y =
 
 -- by the verdict at the last place
 module _ (tag bytes : List ℕ) (p : Place) (v : Verdict) (last : p ≡ lastPlace tag bytes) (said : v ≡ verdictAt p) where
-  verdict-is : v ≡ foundIn tag bytes .verdict
-  verdict-is = verdict-said tag bytes p v last said
-
   pub seek-refused : (r : Refusal) → v ≡ verdict.Refused r → foundIn tag bytes .verdict ≡ verdict.Refused r
-  seek-refused r e = sym verdict-is ∙ e
+  seek-refused r e = sym (verdict-is tag bytes p v last said) ∙ e
 
   pub seek-begins : (file : ℕ) → Bytes tag → Bytes bytes → (s : Summary) → v ≡ verdict.Accepted s → HeadsLeft tag bytes file 48 file
-  seek-begins file t b s e = heads-begin tag bytes file t b (subst IsAccepted (sym e ∙ verdict-is) tt)
+  seek-begins file t b s e = heads-begin tag bytes file t b (subst IsAccepted (sym e ∙ verdict-is tag bytes p v last said) tt)

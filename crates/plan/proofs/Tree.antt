@@ -9,43 +9,30 @@ use Rattle.rules.specs.Kinds.{sameKind}
 use Rattle.rules.specs.declared.Record.{Record}
 use Rattle.rules.specs.declared.Kind.{Kind}
 use Rattle.rules.specs.declared.Kind.the-variants as kind
-use Rattle.layout.specs.Layout.{Hash, Segment, FileBlock, Foot, Shard, Row, listed, members, segmentRow, verificationRow, metadataRow, placed, footRecord, rowsOf, xorbSection, xorbOffset, footerOffset, recordsOf}
+use Rattle.layout.specs.Layout.{Hash, Segment, FileBlock, Foot, Shard, Row, ifAny, members, segmentRow, verificationRow, metadataRow, placed, footRecord, rowsOf, xorbSection, xorbOffset, footerOffset, recordsOf}
+use Rattle.layout.specs.Blocks.{entryRows, fileBlock, blocksThen, segmentOf, leading}
 use Rattle.layout.specs.Scan.{Found, foundIn}
 use Rattle.layout.proofs.Last.{Spelling}
+use Rattle.layout.proofs.BlockKinds.{Kinds, entry-kinds}
+use Rattle.layout.proofs.Leading.{FirstNot, lead-segments}
 use Rattle.finder.proofs.Standing.{placed-then}
-use Rattle.layout.proofs.BlockKinds.{entryRows, Kinds, entry-kinds}
-use Rattle.finder.proofs.Sections.{filesThen, file-section, xorb-section-kinds}
-use Rattle.plan.specs.Plan.{leading, segmentsAt, segmentsIn}
+use Rattle.finder.proofs.Sections.{file-section, xorb-section-kinds}
+use Rattle.plan.specs.Plan.{segmentsAt, segmentsIn}
 
 -- ## Behind a head
 
--- the first of these is no segment
-abbrev FirstNot : List Record → Type 0
-FirstNot [] = Unit {0}
-FirstNot (r ∷ rs) = sameKind (r .kind) kind.Segment ≡ false
-
-lead-none : (rs : List Record) → FirstNot rs → leading rs ≡ []
-unfolding leading
-lead-none [] h = refl
-lead-none (r ∷ rs) h = rw h
-
-lead : (at : ℕ) (ss : List Segment) (others : List Row) (behind : List Record) → ((p : ℕ) → FirstNot (placed p others ++ behind)) → leading (placed at (map segmentRow ss ++ others) ++ behind) ≡ ss
-unfolding leading
-lead at [] others behind h = lead-none (placed at others ++ behind) (h at)
-lead at (s ∷ ss) others behind h = ap (λ (l : List Segment). s ∷ l) (lead (at + 48) ss others behind h)
-
 -- verifications, metadata, the next head or the bookend
-first-not : (vs ms : List Hash) (fs : List FileBlock) (end : List Row) (behind : List Record) (p : ℕ) → FirstNot (placed p ((map verificationRow vs ++ map metadataRow ms) ++ filesThen fs end) ++ behind)
+first-not : (vs ms : List Hash) (fs : List FileBlock) (end : List Row) (behind : List Record) (p : ℕ) → FirstNot kind.Segment (placed p ((map verificationRow vs ++ map metadataRow ms) ++ blocksThen fileBlock fs end) ++ behind)
 first-not [] [] [] end behind p = refl
 first-not [] [] (f ∷ fs) end behind p = refl
 first-not [] (m ∷ ms) fs end behind p = refl
 first-not (v ∷ vs) ms fs end behind p = refl
 
-lead-file : (at : ℕ) (f : FileBlock) (fs : List FileBlock) (end : List Row) (behind : List Record) → leading (placed at (entryRows f ++ filesThen fs end) ++ behind) ≡ f .segments
+lead-file : (at : ℕ) (f : FileBlock) (fs : List FileBlock) (end : List Row) (behind : List Record) → map segmentOf (leading kind.Segment (placed at (entryRows f ++ blocksThen fileBlock fs end) ++ behind)) ≡ f .segments
 lead-file at f fs end behind =
-    let others : List Row = map verificationRow (members (f .verifications)) ++ map metadataRow (listed (f .metadata)) in
-    ap (λ (l : List Row). leading (placed at l ++ behind)) (append-assoc (map segmentRow (f .segments)) others (filesThen fs end))
-    ∙ lead at (f .segments) (others ++ filesThen fs end) behind (first-not (members (f .verifications)) (listed (f .metadata)) fs end behind)
+    let others : List Row = map verificationRow (members (f .verifications)) ++ map metadataRow (ifAny (f .metadata)) in
+    ap (λ (l : List Row). map segmentOf (leading kind.Segment (placed at l ++ behind))) (append-assoc (map segmentRow (f .segments)) others (blocksThen fileBlock fs end))
+    ∙ lead-segments (others ++ blocksThen fileBlock fs end) behind at (f .segments) (first-not (members (f .verifications)) (ifAny (f .metadata)) fs end behind)
 
 -- ## In a section
 
@@ -58,18 +45,18 @@ heads-past n at [] behind h = refl
 heads-past n at (x ∷ xs) behind (h, hs) = rw h (heads-past n (at + 48) xs behind hs)
 
 in-files : (n at : ℕ) (fs : List FileBlock) (end : List Row) (behind : List Record) → ((p m : ℕ) → segmentsIn m (placed p end ++ behind) ≡ none)
-    → segmentsIn n (placed at (filesThen fs end) ++ behind) ≡ segmentsAt n fs
+    → segmentsIn n (placed at (blocksThen fileBlock fs end) ++ behind) ≡ segmentsAt n fs
 unfolding segmentsIn
 in-files n at [] end behind h = h (at + 48) n
 in-files zero at (f ∷ fs) end behind h = ap some (lead-file (at + 48) f fs end behind)
 in-files (suc n) at (f ∷ fs) end behind h =
-    ap (segmentsIn n) (placed-then (at + 48) (entryRows f) (filesThen fs end) behind)
+    ap (segmentsIn n) (placed-then (at + 48) (entryRows f) (blocksThen fileBlock fs end) behind)
     ∙ heads-past n (at + 48) (entryRows f) _ (entry-kinds NoHead f refl refl refl)
     ∙ in-files n _ fs end behind h
 
 -- ## In a shard
 
-no-foot : (n x h : ℕ) (o : Option Foot) → segmentsIn n (map (footRecord x h) (listed o)) ≡ none
+no-foot : (n x h : ℕ) (o : Option Foot) → segmentsIn n (map (footRecord x h) (ifAny o)) ≡ none
 unfolding segmentsIn
 no-foot n x h none = refl
 no-foot n x h (some f) = refl
@@ -77,7 +64,7 @@ no-foot n x h (some f) = refl
 pub in-shard : (tag : List ℕ) (s : Shard) (n : ℕ) → segmentsIn n (recordsOf tag s) ≡ segmentsAt n (s .files)
 unfolding recordsOf rowsOf segmentsIn
 in-shard tag s n =
-    let foot : List Record = map (footRecord (xorbOffset s) (footerOffset s)) (listed (s .footer)) in
+    let foot : List Record = map (footRecord (xorbOffset s) (footerOffset s)) (ifAny (s .footer)) in
     ap (λ (l : List Row). segmentsIn n (placed 48 l ++ foot)) (file-section s (xorbSection s))
     ∙ in-files n 48 (s .files) (xorbSection s) foot
     (λ p m. heads-past m p (xorbSection s) foot (xorb-section-kinds NoHead s refl refl refl) ∙ no-foot m (xorbOffset s) (footerOffset s) (s .footer))

@@ -7,17 +7,15 @@ use mathlib.Core.Option.{Option, none, some}
 use lib.Dec.{leb, ltb}
 use lib.ListN.{length, drop}
 use Rattle.words.specs.Checks.{pick, _unless_then_}
-use Rattle.words.specs.declared.Words.{Words}
 use Rattle.rules.specs.Kinds.{sameKind}
 use Rattle.rules.specs.Rules.{start}
 use Rattle.rules.specs.Verdicts.{refusalAt}
 use Rattle.rules.specs.declared.Record.{Record}
 use Rattle.rules.specs.declared.Refusal.{Refusal}
 use Rattle.rules.specs.declared.Kind.the-variants as kind
-use Rattle.rules.specs.declared.Verdict.{Verdict}
-use Rattle.rules.specs.declared.Verdict.the-variants as verdict
 use Rattle.layout.specs.Layout.{Segment, FileBlock, sumOf}
-use Rattle.layout.specs.Scan.{foundIn}
+use Rattle.layout.specs.Blocks.{segmentOf, leading}
+use Rattle.layout.specs.Scan.{foundIn, ifAccepted}
 use Rattle.plan.specs.declared.Row.{Row}
 use Rattle.plan.specs.declared.Planned.{Planned}
 use Rattle.plan.specs.declared.Planned.the-variants as planned
@@ -88,15 +86,6 @@ segmentsAt n [] = none
 segmentsAt zero (f ∷ fs) = some (f .segments)
 segmentsAt (suc n) (f ∷ fs) = segmentsAt n fs
 
--- what the numbers of a segment's record say
-abbrev pub segmentOf : Words → Segment
-segmentOf w = record { xorb = w .hash; bytes = w .b; start = w .c; end = w .d }
-
--- the segments in front of these records, up to the first record that is no segment
-unfoldable pub leading : List Record → List Segment
-leading [] = []
-leading (r ∷ rs) = pick (sameKind (r .kind) kind.Segment) (segmentOf (r .words) ∷ leading rs) []
-
 -- at a file head, with so many to pass: the segments behind it, or those that the later records give
 abbrev pub atHead : ℕ → List Segment → (ℕ → Option (List Segment)) → Option (List Segment)
 atHead zero here later = some here
@@ -105,7 +94,7 @@ atHead (suc n) here later = later n
 -- among records: the segments behind the file head of that number
 unfoldable pub segmentsIn : ℕ → List Record → Option (List Segment)
 segmentsIn n [] = none
-segmentsIn n (r ∷ rs) = pick (sameKind (r .kind) kind.FileHead) (atHead n (leading rs) (λ m. segmentsIn m rs)) (segmentsIn n rs)
+segmentsIn n (r ∷ rs) = pick (sameKind (r .kind) kind.FileHead) (atHead n (map segmentOf (leading kind.Segment rs)) (λ m. segmentsIn m rs)) (segmentsIn n rs)
 
 -- ## The plan
 
@@ -129,14 +118,9 @@ planFor (some segments) a b room =
     refusedWith 15 unless leb (length (rowsFor a b segments)) room then
     fetch (rowsFor a b segments)
 
--- the shard's own refusal comes before the plan's
-abbrev pub planBy : Verdict → Plan → Plan
-planBy (verdict.Accepted summary) plan = plan
-planBy (verdict.Refused refusal) plan = refused refusal
-
--- by the tag, the shard, the file's number, a, b, and how many rows the table has
+-- by the tag, the shard, the file's number, a, b, and how many rows the table has; the shard's own refusal comes before the plan's
 unfoldable pub planOf : List ℕ → List ℕ → ℕ → ℕ → ℕ → ℕ → Plan
-planOf tag shard file a b room = planBy (foundIn tag shard .verdict) (planFor (segmentsIn file (foundIn tag shard .records)) a b room)
+planOf tag shard file a b room = ifAccepted refused (foundIn tag shard .verdict) (λ s. planFor (segmentsIn file (foundIn tag shard .records)) a b room)
 
 -- the number of rows, or the refusal
 abbrev pub answerTo : Plan → Planned

@@ -8,8 +8,9 @@ use Rattle.words.specs.Record.{wordsAt}
 use Rattle.rules.specs.declared.Refusal.{Refusal}
 use Rattle.rules.specs.declared.Verdict.the-variants as verdict
 use Rattle.layout.specs.Layout.{Segment}
+use Rattle.layout.specs.Blocks.{segmentOf}
 use Rattle.layout.specs.Scan.{foundIn, IsAccepted}
-use Rattle.plan.specs.Plan.{segmentOf, segmentsIn, fileBytes, rowsFor, planOf, answerTo, tableTo}
+use Rattle.plan.specs.Plan.{segmentsIn, fileBytes, rowsFor, planOf, answerTo, tableTo}
 use Rattle.plan.specs.declared.Row.{Row}
 use Rattle.plan.specs.declared.Planned.the-variants as planned
 use Rattle.plan.specs.declared.rows.Share.{Share}

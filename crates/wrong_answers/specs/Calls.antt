@@ -7,6 +7,7 @@ use Rattle.words.specs.Record.{spellHash, spellWords, spellFooter}
 use Rattle.rules.specs.Rules.{faultOf, kindOf, recordOf, nextOf}
 use Rattle.rules.specs.Held.{held}
 use Rattle.rules.specs.Verdicts.{verdictAt}
+use Rattle.layout.specs.Blocks.{leading}
 use Rattle.layout.specs.Quay.{tag, hash}
 use Rattle.layout.specs.Scan.{foundIn, scan}
 use Rattle.layout.specs.Reach.{lastPlace}
@@ -20,7 +21,7 @@ use Rattle.writer.specs.Write.{bytesOf, answerOf, writtenOf, bufferOf}
 use Rattle.finder.specs.Find.{chunkIn, chunkFound, fileIn, fileFound}
 use Rattle.join.specs.Join as join
 use Rattle.join.specs.Join.{joinedAt, joinedBytes, joinFault, answerFor, joinOf}
-use Rattle.plan.specs.Plan.{rowsFor, leading, segmentsIn, planOf, answerTo, tableTo}
+use Rattle.plan.specs.Plan.{rowsFor, segmentsIn, planOf, answerTo, tableTo}
 use Rattle.host.specs.Boundary.{readerIn, readerOut, stepOut, readOut, verdictOut, writerIn, writerOut, writtenOut, writtenFor, bufferFor}
 use Rattle.host.specs.Founds.{chunkOut, fileOut}
 use Rattle.host.specs.Joins.{joinedOut}

@@ -2,7 +2,7 @@
 use mathlib.Core.Path.{refl}
 use mathlib.Core.Bool.{true, false}
 use mathlib.Core.Option.{none, some}
-use mathlib.Core.List.{List, [], _∷_, _++_}
+use mathlib.Core.List.{List, [], _∷_, _++_, map}
 use Prim.Native.Nat.{ℕ, _+_, _-_}
 use lib.ListN.{take, drop, replicate}
 use Rattle.cut.specs.Format.{run, push, fill}
@@ -11,10 +11,12 @@ use Rattle.words.specs.Record.{spellHash, spellWords}
 use Rattle.rules.specs.Rules.{faultOf, kindOf, recordOf, nextOf, start}
 use Rattle.rules.specs.Verdicts.{refusalAt, verdictAt}
 use Rattle.rules.specs.declared.Due.the-variants as due
+use Rattle.rules.specs.declared.Kind.the-variants as kind
 use Rattle.layout.specs.Layout.{Segment, FileBlock}
+use Rattle.layout.specs.Blocks.{leading, segmentOf}
 use Rattle.layout.specs.Quay.{tag, hash, row, header, bookend}
 use Rattle.layout.specs.Scan.{foundIn, scan}
-use Rattle.plan.specs.Plan.{Extent, shares, rowFor, rowsFor, fileBytes, segmentsAt, leading, segmentsIn, fetch, refusedWith, planFor, planOf, answerTo, tableTo}
+use Rattle.plan.specs.Plan.{Extent, shares, rowFor, rowsFor, fileBytes, segmentsAt, segmentsIn, fetch, refusedWith, planFor, planOf, answerTo, tableTo}
 use Rattle.plan.specs.Claims.{Store, fetched, stretch}
 use Rattle.plan.specs.declared.Row.{Row}
 use Rattle.plan.specs.declared.Planned.{Planned}
@@ -237,11 +239,11 @@ wrongs =
     ∷ (segmentsIn 0 (foundIn tag verified .records) not some (segment hash 7 5 6 ∷ segment hash 7 5 6 ∷ []) by fileSegmentsTold)
     -- ## `leading`
     -- verifications and metadata taken for segments
-    ∷ (leading (drop 2 (foundIn tag verified .records)) not segment hash 7 5 6 ∷ segment other 0 0 0 ∷ segment other 0 0 0 ∷ [] by segmentsTold)
+    ∷ (map segmentOf (leading kind.Segment (drop 2 (foundIn tag verified .records))) not segment hash 7 5 6 ∷ segment other 0 0 0 ∷ segment other 0 0 0 ∷ [] by segmentsTold)
     -- the first segment only
-    ∷ (leading (drop 2 (foundIn tag threeSegments .records)) not segment hash 3 1 4 ∷ [] by segmentsTold)
+    ∷ (map segmentOf (leading kind.Segment (drop 2 (foundIn tag threeSegments .records))) not segment hash 3 1 4 ∷ [] by segmentsTold)
     -- the numbers of a record one place off
-    ∷ (leading (drop 2 (foundIn tag verified .records)) not segment hash 0 7 5 ∷ [] by segmentsTold)
+    ∷ (map segmentOf (leading kind.Segment (drop 2 (foundIn tag verified .records))) not segment hash 0 7 5 ∷ [] by segmentsTold)
     -- ## `planFor`
     -- the whole file planned
     ∷ (planFor (some segments) 3 5 2 not fetch (fetchRow hash 1 4 0 3 ∷ fetchRow other 0 2 0 2 ∷ []) by planTold)

@@ -28,7 +28,7 @@ returns c =
     let c1 = c .before in
     let c2 = c1 .before .before in
     let c3 = c2 .before in
-    chunk-refused _ _ _ _ _ (c3 .last-place .ensures) (c2 .verdict .ensures) _ (c1 .refusal .given .1)
+    chunk-refused _ _ _ _ (c3 .last-place .ensures) (c2 .verdict .ensures) _ _ (c1 .refusal .given .1)
 
 blocks2-holds : tie.Need-blocks2-holds Inv-loop μ-loop Inv-blocks2 μ-blocks2
 blocks2-holds c =
@@ -37,7 +37,7 @@ blocks2-holds c =
     let c3 = c2 .before in
     let c4 = c3 .before in
     let c5 = c4 .before in
-    (refl, chunks-from _ _ _ _ _ (c3 .last-place .ensures) (c2 .verdict .ensures) (λ i. omega (arith, c5 .shared-slice-known .given i)) (λ i. omega (arith, c4 .shared-slice-known2 .given i)) _ (c1 .enum-told .given .1))
+    (refl, chunks-from _ _ _ _ (c3 .last-place .ensures) (c2 .verdict .ensures) _ (λ i. omega (arith, c5 .shared-slice-known .given i)) (λ i. omega (arith, c4 .shared-slice-known2 .given i)) _ (c1 .enum-told .given .1))
 
 read-requires : tie.Need-read-requires Inv-loop μ-loop Inv-blocks2 μ-blocks2
 read-requires c κs = room _ _ _ _ _ _ _ (c .blocks2 .inv .1)
@@ -52,7 +52,7 @@ loop-holds c =
     let c1 = c .before in
     let c2 = c1 .before .before in
     let c3 = c2 .before in
-    (search needs, search needs, c3 .blocks2 .inv .0, next-block _ _ _ _ _ _ _ (c3 .blocks2 .inv .1) (c2 .read .ensures) (sym (c1 .is-ones .ensures) ∙ c .if1 .left))
+    (search needs, search needs, c3 .blocks2 .inv .0, next-block _ _ _ _ _ _ (c3 .blocks2 .inv .1) _ (c2 .read .ensures) (sym (c1 .is-ones .ensures) ∙ c .if1 .left))
 
 hash-at-requires : tie.Need-hash-at-requires Inv-loop μ-loop Inv-blocks2 μ-blocks2
 hash-at-requires c κs = omega (arith, room _ _ _ _ _ _ _ (c .before .loop .inv .3))
@@ -89,7 +89,7 @@ returns-2 c =
     let c1 = c .before in
     let c2 = c1 .before .before in
     let c3 = c2 .before in
-    c3 .blocks2 .inv .0 ∙ none-left _ _ _ _ _ _ _ (c3 .blocks2 .inv .1) (c2 .read .ensures) (sym (c1 .is-ones .ensures) ∙ c .if1 .taken)
+    c3 .blocks2 .inv .0 ∙ none-left _ _ _ _ _ _ (c3 .blocks2 .inv .1) _ (c2 .read .ensures) (sym (c1 .is-ones .ensures) ∙ c .if1 .taken)
 
 returns-3 : tie.Need-returns-3 Inv-loop μ-loop Inv-blocks2 μ-blocks2
 returns-3 c =

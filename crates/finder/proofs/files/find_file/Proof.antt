@@ -21,7 +21,7 @@ returns c =
     let c1 = c .before in
     let c2 = c1 .before .before in
     let c3 = c2 .before in
-    file-refused _ _ _ _ _ (c3 .last-place .ensures) (c2 .verdict .ensures) _ (c1 .refusal .given .1)
+    file-refused _ _ _ _ (c3 .last-place .ensures) (c2 .verdict .ensures) _ _ (c1 .refusal .given .1)
 
 loop-holds : tie.Need-loop-holds Inv-loop μ-loop
 loop-holds c =
@@ -29,7 +29,7 @@ loop-holds c =
     let c2 = c1 .before in
     let c3 = c2 .before in
     let c4 = c3 .before in
-    files-from _ _ _ _ _ (c2 .last-place .ensures) (c1 .verdict .ensures) (λ i. omega (arith, c4 .shared-slice-known .given i)) (λ i. omega (arith, c3 .shared-slice-known2 .given i)) _ (c .enum-told .given .1)
+    files-from _ _ _ _ (c2 .last-place .ensures) (c1 .verdict .ensures) _ (λ i. omega (arith, c4 .shared-slice-known .given i)) (λ i. omega (arith, c3 .shared-slice-known2 .given i)) _ (c .enum-told .given .1)
 
 read-requires : tie.Need-read-requires Inv-loop μ-loop
 read-requires c κs = file-room _ _ _ _ _ (c .loop .inv)
