@@ -1,3 +1,4 @@
+pub mod Audits
 pub mod Boundary
 pub mod Claims
 pub mod Founds

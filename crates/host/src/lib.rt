@@ -1,6 +1,7 @@
 // What crosses to C: states and answers as structs of numbers, and the ways out and in again. The functions that a host calls
-// are in host_read, host_step, host_write and host_whole. What each number means is said in specs/Boundary, Founds and Joins, and
-// for C in include/melagbosun.h.
+// are in host_read, host_step, host_write and host_whole. What each number means is said in specs/Boundary, Founds, Joins, Plans
+// and Audits, and for C in include/melagbosun.h.
+pub mod audits;
 pub mod founds;
 pub mod joins;
 mod places;
@@ -160,6 +161,15 @@ pub struct JoinedState {
 #[repr(C)]
 pub struct PlannedState {
     pub rows: u64,
+    pub at: u64,
+    pub number: u32,
+}
+
+// What an audit gives: how many segments name a listed xorb and how many another, or zeros and the refusal.
+#[repr(C)]
+pub struct AuditedState {
+    pub listed: u64,
+    pub unlisted: u64,
     pub at: u64,
     pub number: u32,
 }

@@ -1,10 +1,12 @@
-// For a host that has whole shards in buffers: judging one, finding a chunk or a file in it, joining two, and planning what to fetch of a file.
+// For a host that has whole shards in buffers: judging one, finding a chunk or a file in it, joining two, planning what to fetch of a file, and auditing one.
+use host::AuditedState;
 use host::FoundChunkState;
 use host::FoundFileState;
 use host::HashState;
 use host::JoinedState;
 use host::PlannedState;
 use host::VerdictState;
+use host::audits;
 use host::founds;
 use host::joins;
 use host::plans;
@@ -17,10 +19,12 @@ ghost use Rattle.layout.specs.Scan.{foundIn};
 ghost use Rattle.finder.specs.Find.{chunkFound, fileFound};
 ghost use Rattle.join.specs.Join.{joinOf, bufferOf};
 ghost use Rattle.plan.specs.Plan.{planOf, answerTo, tableTo};
+ghost use Rattle.audit.specs.Audit.{auditOf};
 ghost use Rattle.host.specs.Boundary.{verdictOut};
 ghost use Rattle.host.specs.Founds.{chunkOut, fileOut};
 ghost use Rattle.host.specs.Joins.{joinedOut};
 ghost use Rattle.host.specs.Plans.{plannedOut};
+ghost use Rattle.host.specs.Audits.{auditedOut};
 
 // The verdict on a whole shard in a lent buffer.
 #[no_mangle]
@@ -70,4 +74,12 @@ pub extern "C" fn mdb_plan(
         × (now (table .exit) ≡ tableTo (planOf (now (tag .entry)) (now (shard .entry)) file a b (length (now (table .entry)))) (now (table .entry))) ⌝ }
 {
     plans::planned_out(plan::plan(tag, shard, FileNumber(file), a, b, table))
+}
+
+// The segments of a whole shard against the xorbs that it lists.
+#[no_mangle]
+pub extern "C" fn mdb_audit(tag: &[u8], shard: &[u8]) -> AuditedState
+    ensures { λ r. ⌜ r ≡ auditedOut (auditOf (now (tag .entry)) (now (shard .entry))) ⌝ }
+{
+    audits::audited_out(audit::audit(tag, shard))
 }

@@ -1,4 +1,4 @@
-// The format: its types, and in code the rules that specs/Rules writes down. Reader, writer, finder, join and plan all go by these.
+// The format: its types, and in code the rules that specs/Rules writes down. Reader, writer, finder, join, plan and audit all go by these.
 use words::Words;
 
 mod checks;
@@ -143,6 +143,8 @@ impl Refusal {
     pub const NO_FILE: u32 = 17;
 
     pub const RANGE: u32 = 18;
+
+    pub const FALSE_SEGMENT: u32 = 22;
 
     pub const FOOTER: u32 = 30;
 }
