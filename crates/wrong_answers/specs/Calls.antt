@@ -22,17 +22,19 @@ use Rattle.finder.specs.Find.{chunkIn, chunkFound, fileIn, fileFound}
 use Rattle.join.specs.Join as join
 use Rattle.join.specs.Join.{joinedAt, joinedBytes, joinFault, answerFor, joinOf}
 use Rattle.plan.specs.Plan.{rowsFor, segmentsIn, planOf, answerTo, tableTo}
+use Rattle.audit.specs.Audit.{firstFalse, auditIn, placedIn, blocksIn, auditOf}
 use Rattle.host.specs.Boundary.{readerIn, readerOut, stepOut, readOut, verdictOut, writerIn, writerOut, writtenOut, writtenFor, bufferFor}
 use Rattle.host.specs.Founds.{chunkOut, fileOut}
 use Rattle.host.specs.Joins.{joinedOut}
 use Rattle.host.specs.Plans.{plannedOut}
+use Rattle.host.specs.Audits.{auditedOut}
 use Rattle.host.specs.declared.ReaderState.{ReaderState}
 use Rattle.host.specs.declared.ReadState.{ReadState}
 use Rattle.host.specs.declared.StepState.{StepState}
 use Rattle.host.specs.declared.WriterState.{WriterState}
 use Rattle.wrong_answers.specs.Wrong.{Wrong, _not_by_, Refuted, refuted}
 use Rattle.wrong_answers.specs.Told.{number, numbers, rowsTold}
-use Rattle.wrong_answers.specs.Inputs.{words, other, atEnd, atSegment, atFooter, tagShort, bare, writer, placeWith, offered, lentRow, zeros, goodSegment, empty, late, chunks, files, oneOfEach, threeSegments}
+use Rattle.wrong_answers.specs.Inputs.{words, other, atEnd, atSegment, atFooter, tagShort, bare, writer, placeWith, offered, lentRow, zeros, goodSegment, empty, late, chunks, files, oneOfEach, threeSegments, claims, withXorbs}
 
 -- a reader that waits for a segment, as it was given out
 abbrev waiting : ReaderState
@@ -120,8 +122,15 @@ wrongs =
     ∷ (plannedOut (answerTo (planOf tag threeSegments 0 1 4 1)) .rows not 1 by number)
     -- the table left as it was
     ∷ (tableTo (planOf tag threeSegments 0 3 5 1) (lentRow ∷ []) not lentRow ∷ [] by rowsTold)
+    -- ## `mdb_audit`
+    -- the verdict of the reader for that of the audit
+    ∷ (auditedOut (auditOf tag (withXorbs 1 (claims hash 0 3 61))) .number not 0 by number)
+    -- a refused shard passes with no segments
+    ∷ (auditedOut (auditOf tag late) .number not 0 by number)
+    -- tag and shard exchanged
+    ∷ (auditedOut (auditOf tag empty) .number not auditedOut (auditOf empty tag) .number by number)
     ∷ []
 
 pub calls-refuted : Refuted wrongs
-unfolding stream.fresh stepOf stream.verdictOf callFor readWith readFor reads puts write.fresh wordsOf bytesOf answerOf writtenOf bufferOf write.verdictOf chunkFound chunkIn fileFound fileIn joinedAt joinedBytes joinFault answerFor joinOf join.bufferOf rowsFor leading segmentsIn planOf lastPlace foundIn scan run push fill verdictAt faultOf kindOf recordOf nextOf held leAt zerosAt spell spellHash spellWords spellFooter
+unfolding stream.fresh stepOf stream.verdictOf callFor readWith readFor reads puts write.fresh wordsOf bytesOf answerOf writtenOf bufferOf write.verdictOf chunkFound chunkIn fileFound fileIn joinedAt joinedBytes joinFault answerFor joinOf join.bufferOf rowsFor leading segmentsIn planOf firstFalse auditIn placedIn blocksIn auditOf lastPlace foundIn scan run push fill verdictAt faultOf kindOf recordOf nextOf held leAt zerosAt spell spellHash spellWords spellFooter
 calls-refuted = refuted wrongs refl

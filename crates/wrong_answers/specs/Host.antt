@@ -23,10 +23,13 @@ use Rattle.finder.specs.declared.FoundFile.{FoundFile}
 use Rattle.finder.specs.declared.FoundFile.the-variants as file
 use Rattle.join.specs.declared.Joined.the-variants as joined
 use Rattle.plan.specs.declared.Planned.the-variants as planned
+use Rattle.audit.specs.Audit.{falseAt}
+use Rattle.audit.specs.declared.Audited.the-variants as audited
 use Rattle.host.specs.Boundary.{recordOut, offerIn, verdictOut, readerIn, readerOut, stepOut, readOut, writerIn, writerOut, writtenOut, writtenFor, bufferFor}
 use Rattle.host.specs.Founds.{chunkOut, fileOut}
 use Rattle.host.specs.Joins.{joinedOut}
 use Rattle.host.specs.Plans.{plannedOut}
+use Rattle.host.specs.Audits.{auditedOut}
 use Rattle.wrong_answers.specs.Wrong.{Wrong, _not_by_, Refuted, refuted}
 use Rattle.wrong_answers.specs.Told.{number, numbers, dueTold, answerTold, fieldsTold}
 use Rattle.wrong_answers.specs.Inputs.{words, atEnd, atSegment, atFooter, bare, writer, placeWith, offered, zeros}
@@ -133,6 +136,16 @@ wrongs =
     ∷ (plannedOut (planned.Refused (refusalAt 14 atEnd)) .at not 0 by number)
     -- its number lost
     ∷ (plannedOut (planned.Refused (refusalAt 17 start)) .number not 0 by number)
+    -- ## `audited_out`
+    -- the counts exchanged
+    ∷ (auditedOut (audited.Counted (record { listed = 2; unlisted = 1 })) .listed not 1 by number)
+    ∷ (auditedOut (audited.Counted (record { listed = 2; unlisted = 1 })) .unlisted not 2 by number)
+    -- the position of a false segment for a count
+    ∷ (auditedOut (audited.Refused (falseAt 96)) .listed not 96 by number)
+    -- its position lost
+    ∷ (auditedOut (audited.Refused (falseAt 96)) .at not 0 by number)
+    -- its number lost
+    ∷ (auditedOut (audited.Refused (falseAt 96)) .number not 0 by number)
     ∷ []
 
 pub host-refuted : Refuted wrongs

@@ -147,3 +147,18 @@ oneOfEach h = header 0 ++ emptyFile h ++ bookend ++ emptyXorb h ++ bookend
 -- a file of three segments, of 3, 0 and 2 bytes, and at 240 an empty one
 abbrev pub threeSegments : List ℕ
 threeSegments = header 0 ++ row other 0 3 0 0 ++ row hash 0 3 1 4 ++ row hash 0 0 4 5 ++ row other 0 2 0 2 ++ row hash 0 0 0 0 ++ bookend ++ bookend
+
+-- a segment that claims so many bytes for chunks of a xorb, from start up to end
+abbrev pub claims : List ℕ → ℕ → ℕ → ℕ → List ℕ
+claims xorb start end bytes = row xorb 0 bytes start end
+
+-- three xorbs: chunks of 10, 20 and 30 bytes; another one of the same hash, with a chunk of 1 byte; and one without chunks
+abbrev pub third : List ℕ
+third = 9 ∷ 9 ∷ 9 ∷ 9 ∷ []
+
+abbrev pub xorbs : List ℕ
+xorbs = row hash 0 3 60 0 ++ row third 0 10 0 0 ++ row third 10 20 0 0 ++ row third 30 30 0 0 ++ row hash 0 1 1 0 ++ row third 0 1 0 0 ++ row other 0 0 0 0
+
+-- a file of so many segments, the first of them at 96, and these xorbs
+abbrev pub withXorbs : ℕ → List ℕ → List ℕ
+withXorbs n segments = header 0 ++ row third 0 n 0 0 ++ segments ++ bookend ++ xorbs ++ bookend

@@ -9,6 +9,7 @@ pub mod Writer
 pub mod Finder
 pub mod Join
 pub mod Plan
+pub mod Audit
 pub mod Host
 pub mod Calls
 pub mod Paper

@@ -7,7 +7,7 @@ use mathlib.Core.Option.{Option, none, some}
 use Rattle.rules.specs.Verdicts.{numbersOf}
 use Rattle.rules.specs.declared.Due.{Due}
 use Rattle.rules.specs.declared.Verdict.{Verdict}
-use Rattle.layout.specs.Layout.{Segment, joined}
+use Rattle.layout.specs.Layout.{Segment, XorbBlock, joined}
 use Rattle.reader.specs.declared.Said.{Said}
 use Rattle.writer.specs.declared.Fields.{Fields}
 use Rattle.writer.specs.declared.Answer.{Answer}
@@ -17,10 +17,13 @@ use Rattle.join.specs.declared.Joined.{Joined}
 use Rattle.plan.specs.Plan.{Plan, answerTo, tableTo}
 use Rattle.plan.specs.declared.Row.{Row}
 use Rattle.plan.specs.declared.Planned.{Planned}
+use Rattle.audit.specs.Audit.{PlacedSegment}
+use Rattle.audit.specs.declared.Audited.{Audited}
 use Rattle.host.specs.Boundary.{mark, dueOut, offerBy, saidOut, refusalIn, wroteOut, refusalOf}
 use Rattle.host.specs.Founds.{chunkOut, fileOut}
 use Rattle.host.specs.Joins.{joinedOut}
 use Rattle.host.specs.Plans.{plannedOut}
+use Rattle.host.specs.Audits.{auditedOut}
 
 abbrev pub number : ℕ → List ℕ
 number n = n ∷ []
@@ -74,3 +77,17 @@ segmentsTold segments = joined (λ s. s .xorb ++ (s .bytes ∷ s .start ∷ s .e
 abbrev pub fileSegmentsTold : Option (List Segment) → List ℕ
 fileSegmentsTold none = []
 fileSegmentsTold (some segments) = 1 ∷ segmentsTold segments
+
+abbrev pub auditedTold : Audited → List ℕ
+auditedTold a = auditedOut a .listed ∷ auditedOut a .unlisted ∷ auditedOut a .at ∷ auditedOut a .number ∷ []
+
+abbrev pub placedTold : List PlacedSegment → List ℕ
+placedTold ps = joined (λ p. p .at ∷ segmentsTold (p .segment ∷ [])) ps
+
+-- a block is told by its hash and the lengths of its chunks; none as nothing
+abbrev pub blocksTold : List XorbBlock → List ℕ
+blocksTold xorbs = joined (λ x. x .hash ++ joined (λ c. c .bytes ∷ []) (x .chunks)) xorbs
+
+abbrev pub blockTold : Option XorbBlock → List ℕ
+blockTold none = []
+blockTold (some x) = blocksTold (x ∷ [])
