@@ -1,11 +1,15 @@
 //! The form of the two files of a casebook: cases with the lengths of their
-//! pieces, two shards to be joined with a buffer, and a stretch to be planned,
-//! in; all that is made of each out.
+//! pieces, two shards to be joined with a buffer, a stretch to be planned and a
+//! shard to be audited, in; all that is made of each out.
 
+use std::fmt::Display;
+
+use crate::audit::{audit, Audited};
 use crate::cases::{random_cut_case, Case};
 use crate::draw::{Draw, ROOMS};
 use crate::generate::{Rng, LONGEST};
 use crate::join::join;
+use crate::naming::Naming;
 use crate::plan::{plan, Row};
 use crate::reader::{
     find_chunk, find_file, hash_at, judge, Answer, ChunkIndex, Fields, Hash, Kind, Reader, Record,
@@ -23,14 +27,15 @@ pub const SEED: u64 = 2_767;
 /// The longest shard that the program reads.
 const SHARD_MOST: usize = 8_192;
 
-/// It reads every shard of a stretch.
+/// It reads every shard of a stretch, and every one to be audited.
 const _: () = assert!(LONGEST <= SHARD_MOST);
 
 /// The rows of the program's table; a stretch is lent no more.
 const ROWS: usize = 8;
 
 /// A case, and the lengths of the pieces that it is read in; two shards to be
-/// joined, and the buffer that is lent for it; a stretch to be planned.
+/// joined, and the buffer that is lent for it; a stretch to be planned; a shard
+/// to be audited.
 #[derive(Clone, Debug)]
 pub struct Entry {
     /// The case.
@@ -44,6 +49,8 @@ pub struct Entry {
     pub buffer: Vec<u8>,
     /// The stretch.
     pub stretch: Stretch,
+    /// The shard to be audited.
+    pub naming: Naming,
 }
 
 impl Entry {
@@ -60,19 +67,23 @@ impl Entry {
         let buffer = (0..room).map(|_| rng.word() as u8).collect();
         let turn = rng.word();
         let stretch = Stretch::random(rng, turn);
+        let turn = rng.word();
+        let naming = Naming::random(rng, turn);
         Entry {
             case,
             pieces,
             pair,
             buffer,
             stretch,
+            naming,
         }
     }
 
     /// Its bytes in the input file: the case, K and K lengths; then in the form
     /// of a case the tag and the first shard, and the second shard and the
     /// buffer, each behind its length; then again in the form of a case the
-    /// tag and the shard of the stretch, and what is asked of it.
+    /// tag and the shard of the stretch, and what is asked of it; then once more
+    /// the tag and the shard to be audited.
     pub fn encode(&self) -> Vec<u8> {
         let mut bytes = encode(&self.case.tag, &self.case.shard);
         bytes.push(self.pieces.len() as u8);
@@ -82,8 +93,9 @@ impl Entry {
             bytes.extend((part.len() as u32).to_le_bytes());
             bytes.extend(part);
         }
-        bytes.extend(encode(&self.stretch.tag, &self.stretch.shard));
+        bytes.extend(encode(&self.stretch.known.tag, &self.stretch.known.shard));
         bytes.extend(self.asked());
+        bytes.extend(encode(&self.naming.known.tag, &self.naming.known.shard));
         bytes
     }
 
@@ -111,6 +123,7 @@ impl Entry {
         lines.push(written_line(tag, shard, &records));
         lines.push(self.joined_line());
         lines.extend(self.planned_lines());
+        lines.push(self.audited_line());
         (lines.join("\n") + "\n", verdict)
     }
 
@@ -138,8 +151,8 @@ impl Entry {
         let stretch = &self.stretch;
         let lent = stretch.room.min(table.len());
         plan(
-            &stretch.tag,
-            &stretch.shard,
+            &stretch.known.tag,
+            &stretch.known.shard,
             stretch.file,
             stretch.a,
             stretch.b,
@@ -154,6 +167,17 @@ impl Entry {
         let mut lines = vec![format!("planned {said}")];
         lines.extend(table.iter().map(row_line));
         lines
+    }
+
+    /// What auditing answers.
+    pub fn audited(&self) -> Result<Audited, Refusal> {
+        audit(&self.naming.known.tag, &self.naming.known.shard)
+    }
+
+    /// That: listed segments, then unlisted ones.
+    fn audited_line(&self) -> String {
+        let counts = |sums: Audited| format!("{} {}", sums.listed, sums.unlisted);
+        format!("audited {}", answer(self.audited().map(counts)))
     }
 
     /// The records and the verdict of a reader on these pieces.
@@ -189,10 +213,11 @@ fn offer(reader: &mut Reader, mut piece: &[u8], records: &mut Vec<Record>) {
     }
 }
 
-/// The bytes of a join, the rows of a plan, or a refusal.
-fn answer(answer: Result<usize, Refusal>) -> String {
+/// The bytes of a join, the rows of a plan, the counts of an audit, or a
+/// refusal.
+fn answer(answer: Result<impl Display, Refusal>) -> String {
     match answer {
-        Ok(count) => format!("ok {count}"),
+        Ok(counts) => format!("ok {counts}"),
         Err(refusal) => line(&Err(refusal)),
     }
 }

@@ -265,23 +265,33 @@ pub(crate) fn large_plan(rng: &mut Rng, verified: bool, records: usize) -> Shard
     let of_file = 1 + segments * (1 + usize::from(verified));
     let chunks = records - 3 - of_file - 1;
     ShardPlan {
-        files: vec![FilePlan {
-            hash: rng.head_hash(),
-            verified,
-            segments: (0..segments).map(|_| segment(rng)).collect(),
-            metadata: None,
-        }],
-        xorbs: vec![XorbPlan {
-            hash: rng.head_hash(),
-            on_disk: rng.number(),
-            chunks: (0..chunks).map(|_| chunk(rng)).collect(),
-        }],
+        files: vec![file(rng, verified, segments)],
+        xorbs: vec![xorb(rng, chunks)],
         footer: None,
     }
 }
 
+/// A file of so many segments.
+pub(crate) fn file(rng: &mut Rng, verified: bool, segments: usize) -> FilePlan {
+    FilePlan {
+        hash: rng.head_hash(),
+        verified,
+        segments: (0..segments).map(|_| segment(rng)).collect(),
+        metadata: None,
+    }
+}
+
+/// A xorb of so many chunks.
+pub(crate) fn xorb(rng: &mut Rng, chunks: usize) -> XorbPlan {
+    XorbPlan {
+        hash: rng.head_hash(),
+        on_disk: rng.number(),
+        chunks: (0..chunks).map(|_| chunk(rng)).collect(),
+    }
+}
+
 /// A segment of any number of bytes.
-pub(crate) fn segment(rng: &mut Rng) -> SegmentPlan {
+fn segment(rng: &mut Rng) -> SegmentPlan {
     SegmentPlan {
         hash: rng.hash(),
         bytes: rng.number(),

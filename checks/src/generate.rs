@@ -380,11 +380,21 @@ pub fn lay_bookend() -> Laid {
 
 /// The bytes of all records in a row.
 pub fn flatten(layout: &[Laid]) -> Vec<u8> {
-    layout.iter().flat_map(|laid| laid.bytes.clone()).collect()
+    let records: Vec<&[u8]> = layout.iter().map(|laid| &laid.bytes[..]).collect();
+    records.concat()
 }
 
 /// Where record `index` starts.
 pub fn start_of(layout: &[Laid], index: usize) -> u64 {
     let before = layout[..index].iter().map(|laid| laid.bytes.len() as u64);
     before.sum()
+}
+
+/// Where each part of these lengths begins, one behind the other, and the end.
+pub fn edges(lengths: impl Iterator<Item = u32>) -> Vec<u64> {
+    let mut edges = vec![0];
+    for length in lengths {
+        edges.push(edges[edges.len() - 1] + u64::from(length));
+    }
+    edges
 }

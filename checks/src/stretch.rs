@@ -1,22 +1,15 @@
 //! Stretches of files to be planned, drawn so that every answer is frequent.
 
-use crate::cases::spoil_somehow;
-use crate::draw::{large_plan, segment, Room, MOST};
-use crate::generate::{flatten, start_of, usual_tag, FilePlan, Rng, SegmentPlan, ShardPlan, Size};
-use crate::reader::Refusal;
+use crate::draw::{file, large_plan, Room, MOST};
+use crate::generate::{edges, FilePlan, Rng, SegmentPlan, ShardPlan, Size};
+use crate::known::Known;
 
 /// The bytes of a file from `a` up to but not including `b`, and how many rows
 /// are lent for them.
 #[derive(Clone, Debug)]
 pub struct Stretch {
-    /// The tag.
-    pub tag: Vec<u8>,
-    /// The shard.
-    pub shard: Vec<u8>,
-    /// What the shard is the layout of, but for damage.
-    pub laid: ShardPlan,
-    /// The refusal that the damage or the tag brings.
-    pub refusal: Option<Refusal>,
+    /// The shard that has the file.
+    pub known: Known,
     /// The number of the file; there may be none.
     pub file: u32,
     /// The first byte.
@@ -129,7 +122,7 @@ impl Stretch {
         let file = file_number(rng, &laid.files);
         let mut stretch = Stretch::new(rng, laid, file, (span, room));
         if rng.once_in(12) {
-            stretch.damage(rng);
+            stretch.known.damage(rng);
         }
         stretch
     }
@@ -145,13 +138,8 @@ impl Stretch {
     }
 
     fn new(rng: &mut Rng, laid: ShardPlan, file: u32, (span, room): (Span, Room)) -> Self {
-        let tag = usual_tag();
-        let shard = flatten(&laid.lay(&tag));
         let mut stretch = Stretch {
-            tag,
-            shard,
-            laid,
-            refusal: None,
+            known: Known::new(laid),
             file,
             a: 0,
             b: 0,
@@ -162,35 +150,9 @@ impl Stretch {
         stretch
     }
 
-    /// Damages the shard or the tag.
-    fn damage(&mut self, rng: &mut Rng) {
-        let mut layout = self.laid.lay(&self.tag);
-        let length = self.shard.len() as u64;
-        self.refusal = Some(match rng.below(6) {
-            0 => {
-                self.tag.pop();
-                Refusal::new(2, 0)
-            }
-            1 => {
-                self.shard.push(0);
-                Refusal::new(14, length)
-            }
-            2 => {
-                self.shard.pop();
-                Refusal::new(1, start_of(&layout, layout.len() - 1))
-            }
-            _ => {
-                let place = rng.place(layout.len());
-                let refusal = spoil_somehow(rng, &mut layout, place);
-                self.shard = flatten(&layout);
-                refusal
-            }
-        });
-    }
-
     /// The file, if there is one.
     pub fn file(&self) -> Option<&FilePlan> {
-        self.laid.files.get(self.file as usize)
+        self.known.laid.files.get(self.file as usize)
     }
 
     /// The file's segments; none if there is no file.
@@ -200,11 +162,7 @@ impl Stretch {
 
     /// The byte where each segment begins, and the file's end.
     pub fn edges(&self) -> Vec<u64> {
-        let mut edges = vec![0];
-        for segment in self.segments() {
-            edges.push(edges[edges.len() - 1] + u64::from(segment.bytes));
-        }
-        edges
+        edges(self.segments().iter().map(|segment| segment.bytes))
     }
 
     /// The bytes of the file.
@@ -307,14 +265,10 @@ fn some_files(rng: &mut Rng) -> ShardPlan {
 fn many_files(rng: &mut Rng) -> ShardPlan {
     let mut plan = ShardPlan::default();
     for _ in 0..FILES {
-        let mut only = segment(rng);
+        let mut next = file(rng, false, 1);
+        let only = &mut next.segments[0];
         only.bytes = only.bytes.max(1);
-        plan.files.push(FilePlan {
-            hash: rng.head_hash(),
-            verified: false,
-            segments: vec![only],
-            metadata: None,
-        });
+        plan.files.push(next);
     }
     plan
 }

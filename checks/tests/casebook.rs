@@ -1,5 +1,6 @@
 //! The stored casebook: every number is in it, and it is what is written now.
 
+use checks::audit::Audited;
 use checks::casebook::{blanks, Entry, CASES, SEED};
 use std::fs;
 use std::path::Path;
@@ -61,6 +62,19 @@ fn every_plan_is_seen() {
     }
     assert!(plans.iter().any(|planned| planned.is_ok_and(|n| n > 1)));
     assert!(plans.iter().any(|planned| planned.is_err_and(|n| n <= 14)));
+}
+
+/// Audits that count both kinds, audits refused by the shard, and 22.
+#[test]
+fn every_audit_is_seen() {
+    let audits = (0..CASES).map(|case| Entry::random(SEED, case).audited());
+    let audits: Vec<Result<Audited, u8>> = audits
+        .map(|audited| audited.map_err(|refusal| refusal.number))
+        .collect();
+    let both = |sums: Audited| sums.listed > 0 && sums.unlisted > 0;
+    assert!(audits.contains(&Err(22)), "22 is not in {audits:?}");
+    assert!(audits.iter().any(|audited| audited.is_ok_and(both)));
+    assert!(audits.iter().any(|audited| audited.is_err_and(|n| n <= 14)));
 }
 
 /// However a case is cut, its lines are the same.

@@ -352,8 +352,7 @@ fn drawn_again() {
 fn drawn_shards() {
     let mut rng = Rng::new(2);
     for number in 0..2_000 {
-        let stretch = Stretch::random(&mut rng, number);
-        let wanted = stretch.refusal.map_or(Ok(stretch.laid.summary()), Err);
-        assert_eq!(judge(&stretch.tag, &stretch.shard), wanted);
+        let known = Stretch::random(&mut rng, number).known;
+        assert_eq!(judge(&known.tag, &known.shard), known.verdict());
     }
 }

@@ -1,6 +1,7 @@
-//! `compare N SEED`: N generated inputs, given to the independent reader and to the proved library, shards joined by both, and
-//! stretches of files planned by both. Nothing may differ.
+//! `compare N SEED`: N generated inputs, given to the independent reader and to the proved library, shards joined by both,
+//! stretches of files planned by both, and segments audited by both. Nothing may differ.
 
+mod audit;
 mod join;
 mod plan;
 mod read;
@@ -11,7 +12,7 @@ mod write;
 
 use checks::cases::{random_case, Case};
 use checks::generate::Rng;
-use sights::{Sights, JOINS, PLANS};
+use sights::{Sights, AUDITS, JOINS, PLANS};
 use std::env;
 use std::process::ExitCode;
 
@@ -57,6 +58,7 @@ fn check(case: &Case, rng: &mut Rng, seen: &mut Seen) -> Checked {
     read::in_steps(case, rng)?;
     let offers = read::in_tables(case, rng, &records, verdict)?;
     read::whole(case, rng, &records, verdict)?;
+    audit::any(case, verdict)?;
     let read = write::Read {
         case,
         records: &records,
@@ -108,17 +110,20 @@ fn compare(count: u64, seed: u64) -> Checked {
     let mut seen = Seen::default();
     let mut joins = Sights::new("joins", JOINS);
     let mut plans = Sights::new("plans", PLANS);
+    let mut audits = Sights::new("audits", AUDITS);
     inputs(count, seed, &mut seen)?;
     join::compare(count, seed, &mut joins)?;
     plan::compare(count, seed, &mut plans)?;
+    audit::compare(count, seed, &mut audits)?;
     report(&seen);
-    for sights in [&joins, &plans] {
+    for sights in [&joins, &plans, &audits] {
         sights.report();
         sights.enough(count)?;
     }
     let [pairs, triples, lists] = ["pairs", "triples", "lists"].map(|name| joins.times(name));
     println!("{pairs} pairs, {triples} triples and {lists} lists joined, 0 differences");
     println!("{} plans, 0 differences", plans.times("plans"));
+    println!("{} audits, 0 differences", audits.times("audits"));
     println!("{count} inputs, 0 differences");
     Ok(())
 }

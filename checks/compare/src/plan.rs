@@ -34,7 +34,7 @@ fn tell(what: &str, number: u64, seed: u64, stretch: &Stretch, difference: Strin
     let &Stretch {
         file, a, b, room, ..
     } = stretch;
-    let (tag, shard) = (hex(&stretch.tag), shown(&stretch.shard));
+    let (tag, shard) = (hex(&stretch.known.tag), shown(&stretch.known.shard));
     let mut text = format!("{what} {number} of seed {seed}: {difference}");
     text += &format!("\n  file {file}, from {a} to {b}, into {room} rows");
     text += &format!("\n  tag:   {tag}\n  shard: {shard}");
@@ -83,21 +83,22 @@ fn pattern(length: usize) -> Vec<FetchRow> {
 
 fn product_into(stretch: &Stretch, table: &mut [FetchRow]) -> Result<usize, Refusal> {
     let &Stretch { file, a, b, .. } = stretch;
-    let (tag, shard) = (&stretch.tag, &stretch.shard);
+    let (tag, shard) = (&stretch.known.tag, &stretch.known.shard);
     melagbosun::plan_into(tag, shard, FileNumber(file), a..b, table).map_err(same::refusal)
 }
 
 /// The product's plan as a list.
 fn product(stretch: &Stretch) -> Planned {
     let &Stretch { file, a, b, .. } = stretch;
-    let (tag, shard) = (&stretch.tag, &stretch.shard);
+    let (tag, shard) = (&stretch.known.tag, &stretch.known.shard);
     let rows = melagbosun::plan(tag, shard, FileNumber(file), a..b);
     rows.map(|rows| same::rows(&rows)).map_err(same::refusal)
 }
 
 fn plan_into(stretch: &Stretch, table: &mut [Row]) -> Result<usize, Refusal> {
     let &Stretch { file, a, b, .. } = stretch;
-    plan(&stretch.tag, &stretch.shard, file, a, b, table)
+    let (tag, shard) = (&stretch.known.tag, &stretch.known.shard);
+    plan(tag, shard, file, a, b, table)
 }
 
 /// The independent plan with a row for every segment.
@@ -138,7 +139,7 @@ fn grounds(stretch: &Stretch) -> Vec<Refusal> {
     ];
     let holding = list.into_iter().filter(|one| one.0);
     let holding = holding.map(|(_, number)| Refusal::new(number, 0));
-    stretch.refusal.into_iter().chain(holding).collect()
+    stretch.known.refusal.into_iter().chain(holding).collect()
 }
 
 /// No row without a byte, all bytes of the range, at most a row for each segment, and only the first one skips.
@@ -192,7 +193,7 @@ fn note_accepted(stretch: &Stretch, rows: &[Row], seen: &mut Sights) {
     let file = stretch.file().expect("an accepted plan has a file");
     seen.saw_if(file.verified, "with verifications");
     seen.saw_if(file.metadata.is_some(), "with metadata");
-    seen.saw_if(stretch.laid.footer.is_some(), "with a footer");
+    seen.saw_if(stretch.known.laid.footer.is_some(), "with a footer");
     note_edges(stretch, seen);
     note_neighbours(rows, seen);
 }
@@ -227,7 +228,7 @@ fn note_neighbours(rows: &[Row], seen: &mut Sights) {
 fn note_refused(stretch: &Stretch, grounds: &[Refusal], seen: &mut Sights) {
     let &Stretch { a, b, .. } = stretch;
     seen.saw(match grounds[0].number {
-        _ if stretch.refusal.is_some() => "refused by the shard",
+        _ if stretch.known.refusal.is_some() => "refused by the shard",
         17 => "refused 17",
         18 if a == b => "18 by a = b",
         18 if a > b => "18 by a > b",
@@ -235,7 +236,7 @@ fn note_refused(stretch: &Stretch, grounds: &[Refusal], seen: &mut Sights) {
         _ => "refused 15",
     });
     seen.saw_if(grounds.len() > 1, "more than one ground");
-    let count = stretch.laid.files.len();
+    let count = stretch.known.laid.files.len();
     let first = grounds[0].number == 17 && stretch.file as usize == count;
     seen.saw_if(first, "17 by the first too many");
     if grounds[0].number == 18 {

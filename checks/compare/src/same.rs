@@ -1,5 +1,6 @@
 //! The product's answers in the words of the independent reader.
 
+use checks::audit::Audited;
 use checks::plan::Row;
 use checks::reader as own;
 use melagbosun as product;
@@ -157,4 +158,11 @@ pub fn rows(from: &[product::FetchRow]) -> Vec<Row> {
         take: one.take.into(),
     };
     from.iter().map(row).collect()
+}
+
+pub fn audited(from: product::Audited) -> Audited {
+    Audited {
+        listed: from.listed,
+        unlisted: from.unlisted,
+    }
 }

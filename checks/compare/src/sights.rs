@@ -83,6 +83,55 @@ pub const PLANS: &[Sight] = &[
     ("the longest shard", 9),
 ];
 
+/// Every sight of audits. Down to the footer they are of counted ones, then of those with a false segment; what is false of it
+/// stands behind a comma.
+pub const AUDITS: &[Sight] = &[
+    ("audits", 10_000),
+    ("audits counted", 1_800),
+    ("no segment", 50),
+    ("listed only", 75),
+    ("unlisted only", 75),
+    ("listed and unlisted", 1_300),
+    ("true of some chunks", 1_300),
+    ("true, ends at the count", 1_000),
+    ("true of 0 bytes", 350),
+    ("true of the first only", 400),
+    ("true of u32::MAX bytes", 300),
+    ("one number of the hash", 800),
+    ("a file's hash", 800),
+    ("a chunk's hash", 800),
+    ("any other hash", 800),
+    ("a hash of all ones", 150),
+    ("with verifications", 800),
+    ("with metadata", 1_300),
+    ("a file without segments", 450),
+    ("with a footer", 800),
+    ("refused 22", 2_500),
+    ("22, an end one past", 350),
+    ("22, an end farther past", 175),
+    ("22, a start past", 175),
+    ("22, one byte more", 175),
+    ("22, one byte less", 175),
+    ("22, no first chunk", 175),
+    ("22, no last chunk", 175),
+    ("22, the next chunk too", 175),
+    ("22, from the start", 175),
+    ("22, the whole xorb", 175),
+    ("22, u32::MAX bytes", 175),
+    ("22, any other bytes", 175),
+    ("22, true of a later one", 350),
+    ("22 at the first segment", 600),
+    ("22 at a later segment", 2_000),
+    ("22 in a later file", 1_300),
+    ("22 behind a true one", 1_800),
+    ("more than one false", 900),
+    ("22 of no chunks", 75),
+    ("22, an end of u32::MAX", 50),
+    ("refused by the shard", 350),
+    ("false all the same", 150),
+    ("the longest shard", 5),
+];
+
 /// So many inputs bring all of that, fewer the same part of it.
 const USUAL: u64 = 100_000;
 

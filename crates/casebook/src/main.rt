@@ -3,8 +3,9 @@
 // Where K is 0 it is read in one piece. A length 0 is an empty piece and then one of a byte. Then come in the same way a tag, a shard,
 // another one and a buffer, with which these two are joined; then a tag and a shard of which a stretch is planned, one byte 24, and in
 // 24 bytes (little-endian) the file's number in four, the stretch's first byte and the byte after its last in eight each, and in four
-// how many rows of the table are lent, 8 at the most.
+// how many rows of the table are lent, 8 at the most; then a tag and a shard that is audited.
 use aloud::Heard;
+use audited::next_audited;
 use joined::next_joined;
 use planned::next_planned;
 use shardline::text::say;
@@ -18,6 +19,7 @@ use whole::found_told;
 use whole::written_told;
 
 mod aloud;
+mod audited;
 mod joined;
 mod planned;
 mod whole;
@@ -63,7 +65,7 @@ fn main() {
     let mut turns = u64::MAX;
     let mut more = true;
     while turns > 0 && more {
-        more = next_told() && next_joined() && next_planned();
+        more = next_told() && next_joined() && next_planned() && next_audited();
         turns -= 1;
     }
 }
