@@ -1,4 +1,4 @@
-/* Shards read, written and joined, and stretches of their files planned, for C. `./archive` makes the library,
+/* Shards read, written, joined and audited, and stretches of their files planned, for C. `./archive` makes the library,
  * target/staticlib/libmelagbosun.a (x86-64); link it with `cc program.c -Iinclude -Ltarget/staticlib -lmelagbosun`.
  *
  * No call keeps, allocates or frees anything: a state goes in by value and the next one comes back in the answer. A lent
@@ -6,8 +6,8 @@
  * the same call.
  *
  * Each function is proved to answer, for every state and all bytes, what crates/host/specs says, by way of the specs of
- * reader, writer, finder, join and plan. A state that was not given out by these functions still gets an answer and touches nothing
- * but the lent bytes.
+ * reader, writer, finder, join, plan and audit. A state that was not given out by these functions still gets an answer and touches
+ * nothing but the lent bytes.
  */
 #ifndef MELAGBOSUN_H
 #define MELAGBOSUN_H
@@ -19,7 +19,8 @@
 extern "C" {
 #endif
 
-/* Why a shard, a tag, an offer, a join or a plan was refused. Unless another is named, the position is that where the record starts. */
+/* Why a shard, a tag, an offer, a join, a plan or an audit was refused. Unless another is named, the position is that where the
+ * record starts. */
 enum mdb_refusal {
     MDB_ENDS_EARLY = 1,      /* the input ends inside or before a record still due */
     MDB_TAG_LENGTH = 2,      /* the tag is not 32 bytes; position 0 */
@@ -42,6 +43,7 @@ enum mdb_refusal {
     MDB_NOT_DUE = 16,        /* writer: this kind of record is not due now, or there is no such kind */
     MDB_NO_FILE = 17,        /* plan: the shard has no file of that number; position 0 */
     MDB_RANGE = 18,          /* plan: a is not below b, or b is past the file's end; position 0 */
+    MDB_FALSE_SEGMENT = 22,  /* audit: a segment is false of the xorb that it names, which the shard lists */
     MDB_HAS_FOOTER = 30      /* join: one of the shards has a footer; position 0 */
 };
 
@@ -183,6 +185,13 @@ typedef struct {
     uint32_t number; /* enum mdb_refusal, else 0 */
 } mdb_planned;
 
+typedef struct {
+    uint64_t listed;   /* segments that name a xorb which the shard lists; 0 if refused */
+    uint64_t unlisted; /* segments that name another; 0 if refused */
+    uint64_t at;       /* position of the refusal, else 0 */
+    uint32_t number;   /* enum mdb_refusal, else 0 */
+} mdb_audited;
+
 /* The verdict on a whole shard. */
 mdb_verdict mdb_judge(const uint8_t *tag, size_t tag_length, const uint8_t *shard, size_t length);
 
@@ -203,6 +212,14 @@ mdb_joined mdb_join(const uint8_t *tag, size_t tag_length, const uint8_t *first,
  * changes. Refused in this order: the shard's refusal, 17, 18, 15. */
 mdb_planned mdb_plan(const uint8_t *tag, size_t tag_length, const uint8_t *shard, size_t shard_length, uint32_t file, uint64_t a,
                      uint64_t b, mdb_fetch_row *table, size_t length);
+
+/* The segments of a shard against the xorbs that it lists. A segment is listed if it names one of them, else unlisted. A listed one
+ * is true if its chunk end does not pass the xorb's chunk count and its unpacked bytes are the sum of its chunks' lengths, else
+ * false; of several blocks with the xorb's hash the first is taken. The answer is how many segments are listed and how many are
+ * unlisted, if none is false. Refused in this order: the shard's refusal, 22 at the first false segment. Whether mdb_judge accepts
+ * the shard does not depend on it. A shard has no table of its xorbs, so the heads of the xorb blocks are gone through for each
+ * segment: at worst, the time grows with the number of segments times the number of blocks. */
+mdb_audited mdb_audit(const uint8_t *tag, size_t tag_length, const uint8_t *shard, size_t shard_length);
 
 /* A fresh reader. A tag that is not 32 bytes gives one that has refused with 2. */
 mdb_reader mdb_reader_new(const uint8_t *tag, size_t length);

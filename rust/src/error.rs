@@ -4,10 +4,10 @@ use crate::{ffi, Position};
 use std::error::Error;
 use std::fmt;
 
-/// Why a shard, a tag, an offer, a join or a plan was refused, and where.
+/// Why a shard, a tag, an offer, a join, a plan or an audit was refused, and where.
 #[derive(Clone, Copy, Debug, PartialEq, Eq, Hash)]
 pub struct Refusal {
-    /// The number, 1 to 18 or 30.
+    /// The number, 1 to 18, 22 or 30.
     pub number: u32,
     /// Where the record starts that is at fault or missing; of 14 the first byte too many, of 15 and 16 where the writer
     /// stands. Of accepted shards that can't be joined, or planned from as asked, it is 0.
@@ -36,6 +36,7 @@ impl Refusal {
             16 => "this kind of record is not due now",
             17 => "the shard has no file of that number",
             18 => "the range is empty or runs backwards, or goes past the end of the file",
+            22 => "a segment does not agree with the chunks of the xorb that it names, which the shard lists",
             30 => "a shard to be joined has a footer",
             _ => "the refusal has no known number",
         }

@@ -159,6 +159,15 @@ pub struct Planned {
     pub number: u32,
 }
 
+#[derive(Clone, Copy, Debug)]
+#[repr(C)]
+pub struct Audited {
+    pub listed: u64,
+    pub unlisted: u64,
+    pub at: u64,
+    pub number: u32,
+}
+
 /// What a call of the reader says: nothing yet, a record, a refusal. A search: absent, found, refused.
 pub const NOTHING: u32 = 0;
 pub const FOUND: u32 = 1;
@@ -227,6 +236,7 @@ extern "C" {
         table: *mut FetchRow,
         table_length: usize,
     ) -> Planned;
+    fn mdb_audit(tag: *const u8, tag_length: usize, shard: *const u8, length: usize) -> Audited;
 }
 
 pub fn reader_new(tag: &[u8]) -> Reader {
@@ -360,6 +370,11 @@ pub fn plan(
     }
 }
 
+pub fn audit(tag: &[u8], shard: &[u8]) -> Audited {
+    // SAFETY: both slices outlive the call, which only reads them; the pointer of an empty slice is not null.
+    unsafe { mdb_audit(tag.as_ptr(), tag.len(), shard.as_ptr(), shard.len()) }
+}
+
 /// The sizes that the C declarations have.
 const _: () = {
     assert!(size_of::<Totals>() == 40);
@@ -379,4 +394,5 @@ const _: () = {
     assert!(size_of::<Joined>() == 24);
     assert!(size_of::<FetchRow>() == 48);
     assert!(size_of::<Planned>() == 24);
+    assert!(size_of::<Audited>() == 32);
 };

@@ -1,10 +1,11 @@
-//! Reads, writes and joins shards, and plans what to fetch of their files, through a library that is proved to follow its written
-//! rules.
+//! Reads, writes, joins and audits shards, and plans what to fetch of their files, through a library that is proved to follow its
+//! written rules.
 //!
 //! - [`Reader`] reads a shard in pieces, [`Writer`] writes one record by record.
 //! - [`judge`] answers for a whole shard in a buffer, [`find_chunk`] and [`find_file`] look for a hash in it.
 //! - [`join_into`] joins two shards into a lent buffer, [`join`] a list of them.
 //! - [`plan`] tells which pieces to fetch for a stretch of one file, [`plan_into`] fills a lent table with them.
+//! - [`audit`] holds the segments of a shard against the xorbs that it lists.
 //!
 //! The proved part is the archive `libmelagbosun.a`, for x86-64 only; `./archive` at the top of the repository makes it.
 //! This crate adds types around it and no rules. Only [`join`] and [`plan`] allocate.
@@ -32,6 +33,7 @@
 #![deny(missing_docs)]
 #![deny(unsafe_code)]
 
+mod audit;
 mod error;
 mod ffi;
 mod find;
@@ -41,6 +43,7 @@ mod reader;
 mod record;
 mod writer;
 
+pub use audit::{audit, Audited};
 pub use error::{Refusal, Summary, Totals, Verdict};
 pub use find::{find_chunk, find_file, judge, FoundChunk, FoundFile};
 pub use join::{join, join_into};
