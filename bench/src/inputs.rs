@@ -1,6 +1,6 @@
 //! The shards that are read, made by the proved writer.
 
-use melagbosun::{ChunkIndex, Hash, Offer, Writer};
+use melagbosun::{Audited, ChunkIndex, Hash, Offer, Writer};
 
 /// The tag of the shards.
 pub fn tag() -> [u8; 32] {
@@ -72,10 +72,21 @@ pub fn chunks() -> Input {
 
 /// One xorb of so many chunks.
 fn xorb(name: &'static str, count: u32) -> Input {
-    const BYTES: u32 = 10_000;
     let mut hashes = Hashes(1);
+    let hash = hashes.next().unwrap_or_default();
+    let mut offers = vec![Offer::Header { footer_size: 0 }, Offer::SectionEnd];
+    offers.extend(block(hash, &mut hashes, count));
+    offers.push(Offer::SectionEnd);
+    Input::new(name, offers, 1)
+}
+
+/// The bytes of a chunk.
+const BYTES: u32 = 10_000;
+
+/// A xorb block of this hash, with so many chunks.
+fn block(hash: Hash, hashes: &mut Hashes, count: u32) -> Vec<Offer> {
     let head = Offer::XorbHead {
-        hash: hashes.next().unwrap_or_default(),
+        hash,
         flags: 0,
         entries: count,
         bytes: count * BYTES,
@@ -86,10 +97,9 @@ fn xorb(name: &'static str, count: u32) -> Input {
         start: i * BYTES,
         bytes: BYTES,
     };
-    let mut offers = vec![Offer::Header { footer_size: 0 }, Offer::SectionEnd, head];
+    let mut offers = vec![head];
     offers.extend((0..count).zip(hashes).map(chunk));
-    offers.push(Offer::SectionEnd);
-    Input::new(name, offers, 1)
+    offers
 }
 
 /// 100,000 files of one segment.
@@ -135,6 +145,77 @@ pub fn scan() -> Input {
     offers.extend((0..count).map(|i| segment(&mut hashes, i)));
     offers.extend([Offer::SectionEnd; 2]);
     Input::new("300,000 segments", offers, 1)
+}
+
+/// A shard to be audited.
+pub struct Audit {
+    /// The shard.
+    pub input: Input,
+    /// Its xorbs.
+    pub xorbs: u32,
+    /// What the audit counts.
+    pub counts: Audited,
+}
+
+impl Audit {
+    /// Xorbs of so many chunks, and a file of as many segments as are counted, each made of the xorbs' hashes and its number.
+    fn new(
+        name: &'static str,
+        [xorbs, chunks]: [u32; 2],
+        counts: Audited,
+        segment: impl Fn(&[Hash], u32) -> Offer,
+    ) -> Self {
+        let mut hashes = Hashes(4);
+        let names: Vec<Hash> = hashes.by_ref().take(xorbs as usize).collect();
+        let segments = (counts.listed + counts.unlisted) as u32;
+        let head = head(&mut hashes, segments);
+        let mut offers = vec![Offer::Header { footer_size: 0 }, head];
+        offers.extend((0..segments).map(|i| segment(&names, i)));
+        offers.push(Offer::SectionEnd);
+        for hash in names {
+            offers.extend(block(hash, &mut hashes, chunks));
+        }
+        offers.push(Offer::SectionEnd);
+        let input = Input::new(name, offers, 1);
+        Audit {
+            input,
+            xorbs,
+            counts,
+        }
+    }
+}
+
+/// 1,000 xorbs of 200 chunks and 100,000 segments, spread over them and all true.
+pub fn listed() -> Audit {
+    let counts = Audited {
+        listed: 100_000,
+        unlisted: 0,
+    };
+    let name = "1,000 xorbs, 100,000 segments, all listed";
+    Audit::new(name, [1_000, 200], counts, |xorbs, i| {
+        let start = i % 200;
+        let count = 1 + i % (200 - start);
+        Offer::Segment {
+            hash: xorbs[i as usize * 7_919 % xorbs.len()],
+            flags: 0,
+            bytes: count * BYTES,
+            start: ChunkIndex(start),
+            end: ChunkIndex(start + count),
+        }
+    })
+}
+
+/// 174,760 empty xorbs and 200 segments, none listed. A shard also holds as many segments as these xorbs, and no other asks for
+/// more comparisons then; but that takes minutes.
+pub fn unlisted() -> Audit {
+    let counts = Audited {
+        listed: 0,
+        unlisted: 200,
+    };
+    let name = "174,760 empty xorbs, 200 segments, none listed";
+    Audit::new(name, [174_760, 0], counts, |_, i| {
+        segment(&mut Hashes(5), i)
+    })
 }
 
 /// The shards that are joined, each with itself: as long as two of them together may be.

@@ -72,5 +72,5 @@ pub fn table(rounds: usize) {
         .collect();
     let columns: Vec<&str> = pairs.iter().map(|pair| pair.first.name).collect();
     let rows = ["`mdb_judge` of both, and a plain copy", "`mdb_join`"];
-    print("record of the two shards", &columns, &rows, &all);
+    print("ns per record of the two shards", &columns, &rows, &all);
 }

@@ -1,8 +1,9 @@
-//! What is timed: the inputs, an ordinary reader and an ordinary plan, and the consumer of the records.
+//! What is timed: the inputs, an ordinary reader, plan and audit, and the consumer of the records.
 
 pub mod inputs;
 pub mod measured;
 pub mod ordinary;
+pub mod ordinary_audit;
 pub mod ordinary_plan;
 
 use melagbosun::Record;

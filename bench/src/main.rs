@@ -1,6 +1,7 @@
 //! `bench ROUNDS` times everything and prints a table; `bench count WAY TIMES` reads 300,000 chunks so often by one way, for
 //! an instruction counter.
 
+mod auditing;
 mod joining;
 mod planning;
 
@@ -162,9 +163,10 @@ fn table(rounds: usize) {
     let all: Vec<_> = inputs.iter().map(|one| measured(one, rounds)).collect();
     let columns: Vec<&str> = inputs.iter().map(|input| input.name).collect();
     let rows: Vec<&str> = WAYS.iter().map(|way| way.name).collect();
-    print("record", &columns, &rows, &all);
+    print("ns per record", &columns, &rows, &all);
     joining::table(rounds);
     planning::table(rounds);
+    auditing::table(rounds);
 }
 
 fn count(key: &str, times: usize) -> Option<u64> {

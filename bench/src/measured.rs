@@ -1,6 +1,6 @@
 //! What rounds come to, and the tables of it.
 
-/// What a way's rounds come to, in nanoseconds, and how many times the first way's time that is.
+/// What a way's rounds come to, and how many times the first way's time that is.
 pub struct Measured {
     median: f64,
     ratio: f64,
@@ -43,7 +43,7 @@ pub fn print(unit: &str, columns: &[&str], rows: &[&str], all: &[Vec<Measured>])
         ("fastest round", |m| [m.least, m.least_ratio]),
     ];
     for (title, cell) in titles {
-        println!("| ns per {unit}, {title} | {} |", columns.join(" | "));
+        println!("| {unit}, {title} | {} |", columns.join(" | "));
         println!("|---|{}", "---:|".repeat(columns.len()));
         for (i, name) in rows.iter().enumerate() {
             let cells = all.iter().map(|one| {

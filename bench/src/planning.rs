@@ -88,7 +88,7 @@ pub fn table(rounds: usize) {
         .collect();
     let columns: Vec<&str> = stretches.iter().map(|one| one.name).collect();
     let rows = ["`mdb_judge`, and an ordinary Rust plan", "`mdb_plan`"];
-    print("record of the shard", &columns, &rows, &all);
+    print("ns per record of the shard", &columns, &rows, &all);
 }
 
 /// The bytes of the file that has 300,000 segments.

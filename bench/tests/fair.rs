@@ -1,9 +1,9 @@
-//! The ordinary reader and the ordinary plan are right ones: the same records, verdicts and rows as the proved, on generated
+//! The ordinary reader, plan and audits are right ones: the same records, verdicts, rows and counts as the proved, on generated
 //! inputs.
 
-use bench::{fold, ordinary::Ordinary, ordinary_plan};
-use checks::{cases::random_case, generate::Rng, stretch::Stretch};
-use melagbosun::{judge, plan_into, FetchRow, FileNumber, Reader};
+use bench::{fold, ordinary::Ordinary, ordinary_audit, ordinary_plan};
+use checks::{cases::random_case, generate::Rng, naming::Naming, stretch::Stretch};
+use melagbosun::{audit, judge, plan_into, FetchRow, FileNumber, Reader};
 
 #[test]
 fn the_same_records_and_verdicts() {
@@ -35,7 +35,7 @@ fn the_same_rows() {
     let mut planned = 0;
     for number in 0..20_000 {
         let stretch = Stretch::random(&mut rng, number);
-        let (tag, shard) = (&stretch.tag, &stretch.shard);
+        let (tag, shard) = (&stretch.known.tag, &stretch.known.shard);
         if judge(tag, shard).is_err() {
             continue;
         }
@@ -47,4 +47,24 @@ fn the_same_rows() {
         planned += usize::from(rows.is_some());
     }
     assert!(planned > 4_000, "only {planned} were planned");
+}
+
+#[test]
+fn the_same_counts() {
+    let mut rng = Rng::new(3);
+    let (mut counted, mut refused) = (0, 0);
+    for number in 0..20_000 {
+        let known = Naming::random(&mut rng, number).known;
+        let (tag, shard) = (&known.tag, &known.shard);
+        if judge(tag, shard).is_err() {
+            continue;
+        }
+        let wanted = audit(tag, shard);
+        assert_eq!(ordinary_audit::audit(shard), wanted);
+        assert_eq!(ordinary_audit::audit_by_table(shard), wanted);
+        counted += usize::from(wanted.is_ok());
+        refused += usize::from(wanted.is_err());
+    }
+    let least = counted.min(refused);
+    assert!(least > 4_000, "{counted} were counted, {refused} refused");
 }
