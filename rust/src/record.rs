@@ -40,6 +40,7 @@ impl fmt::Display for Hash {
 }
 
 impl From<[u8; 32]> for Hash {
+    #[inline]
     fn from(bytes: [u8; 32]) -> Self {
         let (words, _) = bytes.as_chunks::<8>();
         Hash([0, 1, 2, 3].map(|i| u64::from_le_bytes(words[i])))
@@ -47,6 +48,7 @@ impl From<[u8; 32]> for Hash {
 }
 
 impl From<Hash> for [u8; 32] {
+    #[inline]
     fn from(hash: Hash) -> Self {
         let mut bytes = [0; 32];
         for (part, word) in bytes.chunks_exact_mut(8).zip(hash.0) {

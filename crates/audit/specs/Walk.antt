@@ -29,6 +29,7 @@ endAt bytes at head i = pick (ltb i (head .b)) (startAt bytes at i) (head .c)
 abbrev pub trueAt : List ℕ → ℕ → Words → Words → Bool
 trueAt bytes at head segment = leb (segment .d) (head .b) && eqb (startAt bytes at (segment .c) + segment .b) (endAt bytes at head (segment .d))
 
+-- the block's chunks stand there, and the segment's first chunk is below its end
 pub record InBlock (bytes : List ℕ) (at : ℕ) (head segment : Words) : Type 0 where
   pub chunks : at + 48 * head .b ≤ length bytes
   pub start-end : segment .c < segment .d

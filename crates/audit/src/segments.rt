@@ -13,6 +13,7 @@ use words::hash::is_ones;
 ghost use mathlib.Core.Path.{_≡_};
 ghost use Rattle.audit.specs.Audit.{auditOf};
 
+// The two counts; or 22 where the first false segment starts; or the shard's refusal.
 pub fn audit(tag: &[u8], shard: &[u8]) -> Audited
     ensures { λ r. ⌜ r ≡ auditOf (now (tag .entry)) (now (shard .entry)) ⌝ }
 {
