@@ -3,7 +3,7 @@ use mathlib.Core.Path.{_≡_, refl, sym, ap, _∙_, subst}
 use mathlib.Core.Logic.{_⊎_, inl, inr}
 use mathlib.Core.Bool.{Bool, true, false, true≢false}
 use mathlib.Core.Option.{Option, none, some}
-use mathlib.Core.List.{List, [], _∷_, _++_, map, append-assoc}
+use mathlib.Core.List.{List, [], _∷_, _++_, map}
 use Prim.Native.Nat.{ℕ, _+_, _*_}
 use native.Mathlib.Omega.{arith}
 use lib.ListN.{length, length-append}
@@ -14,11 +14,12 @@ use Rattle.words.proofs.Records.{hash-same, same-self}
 use Rattle.rules.specs.declared.Refusal.{Refusal}
 use Rattle.rules.specs.declared.Verdict.{Verdict}
 use Rattle.rules.specs.declared.Verdict.the-variants as verdict
-use Rattle.layout.specs.Layout.{Hash, Segment, FileBlock, XorbBlock, Shard, Row, Each, sumOf, ifAny, members, fileRows, segmentRow, verificationRow, metadataRow, rowsOf, xorbSection, totalsOf}
-use Rattle.layout.specs.Blocks.{entryRows, fileBlock, blocksThen, Stand}
+use Rattle.layout.specs.Layout.{Hash, Segment, FileBlock, XorbBlock, Shard, Row, Each, sumOf, fileRows, segmentRow, rowsOf, xorbSection, totalsOf}
+use Rattle.layout.specs.Blocks.{otherRows, entryRows, fileBlock, blocksThen, Stand}
 use Rattle.layout.specs.Claim.{Spells}
 use Rattle.layout.specs.Scan.{Found, foundIn, IsAccepted}
 use Rattle.layout.proofs.Answers.{was-accepted}
+use Rattle.layout.proofs.Leading.{segments-first}
 use Rattle.layout.proofs.Last.{tag-size, spelling, tree-of}
 use Rattle.finder.proofs.Standing.{stand-behind, stand-shard}
 use Rattle.finder.proofs.Sections.{file-section}
@@ -146,10 +147,9 @@ there-from : (bytes : List ℕ) (at : ℕ) (fs : List FileBlock) (end : List Row
 unfolding fileRows
 there-from bytes at [] end t = tt
 there-from bytes at (f ∷ fs) end (w, l, t) =
-    let others : List Row = map verificationRow (members (f .verifications)) ++ map metadataRow (ifAny (f .metadata)) in
     let e : at + 48 + 48 * length (entryRows f) ≡ at + 48 * length (fileRows f) = omega arith in
-    there-behind bytes (at + 48) (f .segments) (others ++ blocksThen fileBlock fs end) _
-    (subst (Stand bytes (at + 48)) (append-assoc (map segmentRow (f .segments)) others (blocksThen fileBlock fs end)) t)
+    there-behind bytes (at + 48) (f .segments) (otherRows f ++ blocksThen fileBlock fs end) _
+    (subst (Stand bytes (at + 48)) (segments-first f (blocksThen fileBlock fs end)) t)
     (there-from bytes _ fs end (subst (λ (p : ℕ). Stand bytes p (blocksThen fileBlock fs end)) e (stand-behind bytes (at + 48) (entryRows f) (blocksThen fileBlock fs end) t)))
 
 there-of : (tag bytes : List ℕ) (s : Shard) → Bytes tag → Spells tag s bytes → There bytes (placedOf s)

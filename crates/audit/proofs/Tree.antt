@@ -11,8 +11,8 @@ use Rattle.rules.specs.Kinds.{sameKind}
 use Rattle.rules.specs.declared.Record.{Record}
 use Rattle.rules.specs.declared.Kind.{Kind}
 use Rattle.rules.specs.declared.Kind.the-variants as kind
-use Rattle.layout.specs.Layout.{Segment, FileBlock, Chunk, XorbBlock, Foot, Shard, Row, ifAny, members, fileRows, segmentRow, verificationRow, metadataRow, chunkRows, placed, footRecord, rowsOf, fileSection, xorbSection, xorbOffset, footerOffset, recordsOf}
-use Rattle.layout.specs.Blocks.{entryRows, fileBlock, xorbBlock, blocksThen}
+use Rattle.layout.specs.Layout.{Segment, FileBlock, Chunk, XorbBlock, Foot, Shard, Row, ifAny, fileRows, segmentRow, chunkRows, placed, footRecord, rowsOf, fileSection, xorbSection, xorbOffset, footerOffset, recordsOf}
+use Rattle.layout.specs.Blocks.{otherRows, entryRows, fileBlock, xorbBlock, blocksThen}
 use Rattle.layout.proofs.BlockKinds.{Kinds, chunk-kinds, other-kinds}
 use Rattle.layout.proofs.Leading.{FirstNot, lead-chunks}
 use Rattle.finder.proofs.Standing.{placed-then}
@@ -45,7 +45,7 @@ in-files at [] end behind h = h (at + 48)
 in-files at (f ∷ fs) end behind h =
     let e : at + 48 + 48 * length (entryRows f) ≡ at + 48 * length (fileRows f) = omega arith in
     ap placedIn (placed-then (at + 48) (entryRows f) (blocksThen fileBlock fs end) behind)
-    ∙ in-segments (at + 48) (f .segments) (map verificationRow (members (f .verifications)) ++ map metadataRow (ifAny (f .metadata))) _ (other-kinds NoSegment f refl refl)
+    ∙ in-segments (at + 48) (f .segments) (otherRows f) _ (other-kinds NoSegment f refl refl)
     ∙ ap (λ (l : List PlacedSegment). placedBehind (at + 48) (f .segments) ++ l) (in-files (at + 48 + 48 * length (entryRows f)) fs end behind h ∙ ap (λ (p : ℕ). placedFrom p fs) e)
 
 foot-segments : (x h : ℕ) (o : Option Foot) → placedIn (map (footRecord x h) (ifAny o)) ≡ []

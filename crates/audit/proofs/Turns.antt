@@ -2,16 +2,17 @@
 -- are counted. Assumes nothing.
 use mathlib.Core.Path.{_≡_, refl, sym, ap, _∙_, subst}
 use mathlib.Core.Bool.{true, false}
-use mathlib.Core.List.{List, [], _∷_, _++_, map, append-assoc}
+use mathlib.Core.List.{List, [], _∷_, _++_, map}
 use Prim.Native.Nat.{ℕ, _+_, _-_, _*_, _≤_, _<_}
 use native.Mathlib.Omega.{arith}
 use lib.ListN.{length}
 use Rattle.words.specs.Record.{wordsAt, isOnes}
 use Rattle.words.specs.declared.Words.{Words}
 use Rattle.rules.specs.Rules.{limit, furtherRecords}
-use Rattle.layout.specs.Layout.{Segment, FileBlock, XorbBlock, Row, Each, ifAny, members, fileRows, segmentRow, verificationRow, metadataRow, SoundSegment, SoundFile}
-use Rattle.layout.specs.Blocks.{fileBlock, blocksThen, Stand, segmentOf}
+use Rattle.layout.specs.Layout.{Segment, FileBlock, XorbBlock, Row, Each, fileRows, segmentRow, SoundSegment, SoundFile}
+use Rattle.layout.specs.Blocks.{otherRows, fileBlock, blocksThen, Stand, segmentOf}
 use Rattle.layout.proofs.FilesForth.{length-file}
+use Rattle.layout.proofs.Leading.{segments-first}
 use Rattle.finder.proofs.Heads.{file-heads, Head, head-room, at-bookend, at-head, next-due}
 use Rattle.audit.specs.Audit.{PlacedSegment, firstFalse, falseAt, placedBehind, placedFrom}
 use Rattle.audit.specs.Walk.{comparedIn, XorbsAt, Comparable, Compares}
@@ -72,16 +73,15 @@ module _ (bytes : List ℕ) (from : ℕ) (answer : Audited) (at l u : ℕ) (c : 
     into-file e =
         let h : Head file-heads bytes at (c .later) w read (c .files) = at-head file-heads bytes at (c .later) w read (c .files) (c .files-sound) (c .stand) e in
         let ss : List Segment = h .block .segments in
-        let others : List Row = map verificationRow (members (h .block .verifications)) ++ map metadataRow (ifAny (h .block .metadata)) in
         let k : length (fileRows (h .block)) ≡ 1 + furtherRecords (w .a) (w .b) = omega (arith, h .entries) in
         record {
           xorbs = c .xorbs;
           there = c .there;
           segments = ss;
-          others = others ++ blocksThen fileBlock (h .others) (c .later);
+          others = otherRows (h .block) ++ blocksThen fileBlock (h .others) (c .later);
           count = omega (arith, ap (λ (v : Words). v .b) (h .words));
           sound = h .is-sound .segments;
-          rows = subst (Stand bytes (at + 48)) (append-assoc (map segmentRow ss) others (blocksThen fileBlock (h .others) (c .later))) (h .stand);
+          rows = subst (Stand bytes (at + 48)) (segments-first (h .block) (blocksThen fileBlock (h .others) (c .later))) (h .stand);
           files = h .others;
           later = c .later;
           files-sound = h .sound;

@@ -1,11 +1,22 @@
 -- EXAMPLES, by computation: two files over three xorb blocks, two of which have one hash.
 use mathlib.Core.Path.{_≡_, refl}
 use mathlib.Core.Option.{none, some}
-use mathlib.Core.List.{List, [], _∷_}
+use mathlib.Core.Bool.{false}
+use mathlib.Core.List.{List, [], _∷_, _++_}
 use Prim.Native.Nat.{ℕ}
 use lib.ListN.{replicate}
+use Rattle.cut.specs.Format.{run, push, fill}
+use Rattle.words.specs.Le.{leAt, zerosAt, spell}
+use Rattle.words.specs.Record.{spellHash, spellWords}
+use Rattle.rules.specs.Rules.{faultOf, kindOf, recordOf, nextOf}
+use Rattle.rules.specs.Verdicts.{verdictAt}
+use Rattle.rules.specs.declared.Verdict.{Verdict}
+use Rattle.rules.specs.declared.Verdict.the-variants.{Accepted}
 use Rattle.layout.specs.Layout.{Segment, Chunk, XorbBlock, fileRows}
-use Rattle.audit.specs.Audit.{firstFalse, falseAt, auditIn, auditFor}
+use Rattle.layout.specs.Blocks.{leading}
+use Rattle.layout.specs.Quay.{tag, hash, row, header, bookend}
+use Rattle.layout.specs.Scan.{foundIn, scan}
+use Rattle.audit.specs.Audit.{firstFalse, falseAt, auditIn, auditFor, placedIn, blocksIn, auditOf}
 use Rattle.audit.specs.declared.Audited.{Audited}
 use Rattle.audit.specs.declared.Audited.the-variants.{Counted, Refused}
 
@@ -29,6 +40,13 @@ of ss s = auditFor (record {
   footer = none;
 })
 
+-- in bytes, at the quay: a file of one segment that claims so many bytes for both chunks of a xorb, 10 and 20; and what the reader says of it
+abbrev claiming : ℕ → List ℕ
+claiming bytes = header 0 ++ row hash 0 1 0 0 ++ row hash 0 bytes 0 2 ++ bookend ++ row hash 0 2 30 0 ++ row hash 0 10 0 0 ++ row hash 10 20 0 0 ++ bookend
+
+abbrev acceptedOf : ℕ → Verdict
+acceptedOf bytes = Accepted (record { length = 384; totals = record { files = 1; segments = 1; xorbs = 1; chunks = 2; bytes = bytes }; footer = false })
+
 pub record Examples : Type 0 where
   -- all the chunks, some of them, a xorb that is not listed
   good : of (segment 11 0 3 60 ∷ segment 11 1 2 20 ∷ segment 13 5 9 7 ∷ []) (segment 11 1 3 50) ≡ Counted (record { listed = 3; unlisted = 1 })
@@ -40,7 +58,20 @@ pub record Examples : Type 0 where
   -- the first block decides, not the second; a block with no chunks
   second-block : of (segment 11 0 1 10 ∷ []) (segment 11 0 1 1) ≡ Refused (falseAt 240)
   no-chunks : of (segment 12 0 1 0 ∷ []) (segment 11 0 1 10) ≡ Refused (falseAt 96)
+  -- a verdict apart: both of these shards are accepted, and one is refused here
+  accepted : (foundIn tag (claiming 30) .verdict ≡ acceptedOf 30) × (foundIn tag (claiming 31) .verdict ≡ acceptedOf 31)
+  apart : (auditOf tag (claiming 30) ≡ Counted (record { listed = 1; unlisted = 0 })) × (auditOf tag (claiming 31) ≡ Refused (falseAt 96))
 
 examples : Examples
-unfolding auditIn firstFalse fileRows
-examples = record { good = refl; none-listed = refl; few = refl; many = refl; past = refl; second-block = refl; no-chunks = refl }
+unfolding auditIn firstFalse fileRows placedIn blocksIn leading auditOf foundIn scan run push fill verdictAt faultOf kindOf recordOf nextOf leAt zerosAt spell spellHash spellWords
+examples = record {
+  good = refl;
+  none-listed = refl;
+  few = refl;
+  many = refl;
+  past = refl;
+  second-block = refl;
+  no-chunks = refl;
+  accepted = (refl, refl);
+  apart = (refl, refl);
+}

@@ -5,7 +5,7 @@ use Prim.Native.Nat.{ℕ}
 use Rattle.rules.specs.declared.Kind.{Kind}
 use Rattle.rules.specs.declared.Kind.the-variants as kind
 use Rattle.layout.specs.Layout.{FileBlock, XorbBlock, Chunk, Row, Each, joined, members, ifAny, segmentRow, verificationRow, metadataRow, fileRows, chunkRows, xorbRows}
-use Rattle.layout.specs.Blocks.{entryRows}
+use Rattle.layout.specs.Blocks.{otherRows, entryRows}
 use Rattle.layout.proofs.Lists.{each-append}
 
 module _ (P : Kind → Type 0) where
@@ -26,7 +26,7 @@ module _ (P : Kind → Type 0) where
   -- ## File blocks
 
   -- behind the segments
-  pub other-kinds : (f : FileBlock) → P kind.Verification → P kind.Metadata → Kinds (map verificationRow (members (f .verifications)) ++ map metadataRow (ifAny (f .metadata)))
+  pub other-kinds : (f : FileBlock) → P kind.Verification → P kind.Metadata → Kinds (otherRows f)
   other-kinds f v m = kinds-then (map verificationRow (members (f .verifications))) _ (kinds-map verificationRow (members (f .verifications)) (λ x. v)) (kinds-map metadataRow (ifAny (f .metadata)) (λ x. m))
 
   pub entry-kinds : (f : FileBlock) → P kind.Segment → P kind.Verification → P kind.Metadata → Kinds (entryRows f)

@@ -2,14 +2,18 @@
 -- layout. Assumes nothing.
 use mathlib.Core.Path.{_≡_, refl, ap}
 use mathlib.Core.Bool.{false}
-use mathlib.Core.List.{List, [], _∷_, _++_, map}
+use mathlib.Core.List.{List, [], _∷_, _++_, map, append-assoc}
 use Prim.Native.Nat.{ℕ, _+_}
 use Rattle.rules.specs.Kinds.{sameKind}
 use Rattle.rules.specs.declared.Record.{Record}
 use Rattle.rules.specs.declared.Kind.{Kind}
 use Rattle.rules.specs.declared.Kind.the-variants as kind
-use Rattle.layout.specs.Layout.{Segment, Chunk, Row, segmentRow, chunkRows, placed}
-use Rattle.layout.specs.Blocks.{segmentOf, chunkOf, leading}
+use Rattle.layout.specs.Layout.{Segment, FileBlock, Chunk, Row, segmentRow, chunkRows, placed}
+use Rattle.layout.specs.Blocks.{otherRows, entryRows, segmentOf, chunkOf, leading}
+
+-- a file's segments stand before its other entries
+pub segments-first : (f : FileBlock) (rest : List Row) → entryRows f ++ rest ≡ map segmentRow (f .segments) ++ (otherRows f ++ rest)
+segments-first f rest = append-assoc (map segmentRow (f .segments)) (otherRows f) rest
 
 -- the first of these, if there is one, is of another kind
 abbrev pub FirstNot : Kind → List Record → Type 0

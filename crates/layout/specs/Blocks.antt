@@ -18,8 +18,12 @@ pub record BlockRows (B : Type 0) : Type 0 where
   pub head : B → Row
   pub entries : B → List Row
 
+-- behind a file head: its segments, then its verifications and its metadata
+abbrev pub otherRows : FileBlock → List Row
+otherRows f = map verificationRow (members (f .verifications)) ++ map metadataRow (ifAny (f .metadata))
+
 abbrev pub entryRows : FileBlock → List Row
-entryRows f = map segmentRow (f .segments) ++ (map verificationRow (members (f .verifications)) ++ map metadataRow (ifAny (f .metadata)))
+entryRows f = map segmentRow (f .segments) ++ otherRows f
 
 abbrev pub fileBlock : BlockRows FileBlock
 fileBlock = record { head = fileHeadRow; entries = entryRows }

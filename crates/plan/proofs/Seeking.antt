@@ -3,7 +3,7 @@
 use mathlib.Core.Path.{_≡_, refl, sym, ap, _∙_, subst}
 use mathlib.Core.Bool.{true, false}
 use mathlib.Core.Option.{some}
-use mathlib.Core.List.{List, [], _∷_, _++_, map, append-assoc}
+use mathlib.Core.List.{List, [], _∷_, _++_, map}
 use Prim.Native.Nat.{ℕ, zero, suc, _+_, _-_, _*_, _≤_, _<_}
 use native.Mathlib.Omega.{arith}
 use lib.ListN.{length}
@@ -17,10 +17,11 @@ use Rattle.rules.specs.declared.Refusal.{Refusal}
 use Rattle.rules.specs.declared.Summary.{Summary}
 use Rattle.rules.specs.declared.Verdict.{Verdict}
 use Rattle.rules.specs.declared.Verdict.the-variants as verdict
-use Rattle.layout.specs.Layout.{Segment, FileBlock, Row, Each, ifAny, members, segmentRow, verificationRow, metadataRow, rowsOf, xorbSection, SoundFile}
-use Rattle.layout.specs.Blocks.{fileBlock, blocksThen, Stand, segmentOf}
+use Rattle.layout.specs.Layout.{Segment, FileBlock, Row, Each, segmentRow, rowsOf, xorbSection, SoundFile}
+use Rattle.layout.specs.Blocks.{otherRows, fileBlock, blocksThen, Stand, segmentOf}
 use Rattle.layout.specs.Scan.{foundIn, IsAccepted}
 use Rattle.layout.specs.Reach.{lastPlace}
+use Rattle.layout.proofs.Leading.{segments-first}
 use Rattle.finder.proofs.Sections.{file-section}
 use Rattle.finder.proofs.Heads.{file-heads, Head, head-room, at-bookend, at-head, next-due}
 use Rattle.finder.proofs.Begin.{Accepted, accepted, verdict-is}
@@ -79,8 +80,8 @@ module _ (tag bytes : List ℕ) (file at left : ℕ) (c : HeadsLeft tag bytes fi
       pub head-hit : left ≡ 0 → SegmentsThere tag bytes file (at + 48) (w .b)
       head-hit z =
           let ss : List Segment = head .block .segments in
-          let others : List Row = (map verificationRow (members (head .block .verifications)) ++ map metadataRow (ifAny (head .block .metadata))) ++ blocksThen fileBlock (head .others) (c .later) in
-          let t : Stand bytes (at + 48) (map segmentRow ss ++ others) = subst (Stand bytes (at + 48)) (append-assoc (map segmentRow ss) _ (blocksThen fileBlock (head .others) (c .later))) (head .stand) in
+          let others : List Row = otherRows (head .block) ++ blocksThen fileBlock (head .others) (c .later) in
+          let t : Stand bytes (at + 48) (map segmentRow ss ++ others) = subst (Stand bytes (at + 48)) (segments-first (head .block) (blocksThen fileBlock (head .others) (c .later))) (head .stand) in
           let n : w .b ≡ length ss = ap (λ (v : Words). v .b) (head .words) in
           record {
             accepted = c .accepted;

@@ -3,18 +3,18 @@
 use mathlib.Core.Path.{_≡_, refl, ap, _∙_}
 use mathlib.Core.Bool.{false}
 use mathlib.Core.Option.{Option, none, some}
-use mathlib.Core.List.{List, [], _∷_, _++_, map, append-assoc}
+use mathlib.Core.List.{List, [], _∷_, _++_, map}
 use Prim.Native.Nat.{ℕ, zero, suc, _+_}
 use Rattle.rules.specs.Kinds.{sameKind}
 use Rattle.rules.specs.declared.Record.{Record}
 use Rattle.rules.specs.declared.Kind.{Kind}
 use Rattle.rules.specs.declared.Kind.the-variants as kind
-use Rattle.layout.specs.Layout.{Hash, Segment, FileBlock, Foot, Shard, Row, ifAny, members, segmentRow, verificationRow, metadataRow, placed, footRecord, rowsOf, xorbSection, xorbOffset, footerOffset, recordsOf}
-use Rattle.layout.specs.Blocks.{entryRows, fileBlock, blocksThen, segmentOf, leading}
+use Rattle.layout.specs.Layout.{Hash, Segment, FileBlock, Foot, Shard, Row, ifAny, members, verificationRow, metadataRow, placed, footRecord, rowsOf, xorbSection, xorbOffset, footerOffset, recordsOf}
+use Rattle.layout.specs.Blocks.{otherRows, entryRows, fileBlock, blocksThen, segmentOf, leading}
 use Rattle.layout.specs.Scan.{Found, foundIn}
 use Rattle.layout.proofs.Last.{Spelling}
 use Rattle.layout.proofs.BlockKinds.{Kinds, entry-kinds}
-use Rattle.layout.proofs.Leading.{FirstNot, lead-segments}
+use Rattle.layout.proofs.Leading.{FirstNot, segments-first, lead-segments}
 use Rattle.finder.proofs.Standing.{placed-then}
 use Rattle.finder.proofs.Sections.{file-section, xorb-section-kinds}
 use Rattle.plan.specs.Plan.{segmentsAt, segmentsIn}
@@ -30,9 +30,8 @@ first-not (v ∷ vs) ms fs end behind p = refl
 
 lead-file : (at : ℕ) (f : FileBlock) (fs : List FileBlock) (end : List Row) (behind : List Record) → map segmentOf (leading kind.Segment (placed at (entryRows f ++ blocksThen fileBlock fs end) ++ behind)) ≡ f .segments
 lead-file at f fs end behind =
-    let others : List Row = map verificationRow (members (f .verifications)) ++ map metadataRow (ifAny (f .metadata)) in
-    ap (λ (l : List Row). map segmentOf (leading kind.Segment (placed at l ++ behind))) (append-assoc (map segmentRow (f .segments)) others (blocksThen fileBlock fs end))
-    ∙ lead-segments (others ++ blocksThen fileBlock fs end) behind at (f .segments) (first-not (members (f .verifications)) (ifAny (f .metadata)) fs end behind)
+    ap (λ (l : List Row). map segmentOf (leading kind.Segment (placed at l ++ behind))) (segments-first f (blocksThen fileBlock fs end))
+    ∙ lead-segments (otherRows f ++ blocksThen fileBlock fs end) behind at (f .segments) (first-not (members (f .verifications)) (ifAny (f .metadata)) fs end behind)
 
 -- ## In a section
 
