@@ -11,7 +11,7 @@ use Rattle.words.specs.Checks.{pick}
 use Rattle.words.specs.Le.{Bytes}
 use Rattle.words.specs.Record.{sameHash, wordsAt}
 use Rattle.words.proofs.Records.{hash-same, same-self}
-use Rattle.rules.specs.declared.Refusal.{Refusal}
+use Rattle.words.specs.declared.Refusal.{Refusal}
 use Rattle.rules.specs.declared.Verdict.{Verdict}
 use Rattle.rules.specs.declared.Verdict.the-variants as verdict
 use Rattle.layout.specs.Layout.{Hash, Segment, FileBlock, XorbBlock, Shard, Row, Each, sumOf, fileRows, segmentRow, rowsOf, xorbSection, totalsOf}

@@ -7,7 +7,7 @@ use native.Mathlib.Omega.{arith}
 use Rattle.words.specs.Le.{Bytes}
 use Rattle.rules.specs.Verdicts.{verdictAt}
 use Rattle.rules.specs.declared.Place.{Place}
-use Rattle.rules.specs.declared.Refusal.{Refusal}
+use Rattle.words.specs.declared.Refusal.{Refusal}
 use Rattle.rules.specs.declared.Summary.{Summary}
 use Rattle.rules.specs.declared.Verdict.{Verdict}
 use Rattle.rules.specs.declared.Verdict.the-variants as verdict

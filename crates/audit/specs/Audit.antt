@@ -8,9 +8,10 @@ use lib.Dec.{eqb, leb}
 use lib.ListN.{length, take, drop}
 use Rattle.words.specs.Checks.{pick}
 use Rattle.words.specs.Record.{sameHash}
+use Rattle.words.specs.Refusals.{refusedAt}
 use Rattle.rules.specs.Kinds.{sameKind}
 use Rattle.rules.specs.declared.Record.{Record}
-use Rattle.rules.specs.declared.Refusal.{Refusal}
+use Rattle.words.specs.declared.Refusal.{Refusal}
 use Rattle.rules.specs.declared.Kind.the-variants as kind
 use Rattle.layout.specs.Layout.{Hash, Segment, FileBlock, Chunk, XorbBlock, Shard, has, sumOf, bytesIn, fileRows}
 use Rattle.layout.specs.Scan.{foundIn, ifAccepted}
@@ -75,7 +76,7 @@ abbrev pub countsOf : List XorbBlock → List PlacedSegment → Counts
 countsOf xorbs ps = record { listed = listedOf xorbs ps; unlisted = unlistedOf xorbs ps }
 
 abbrev pub falseAt : ℕ → Refusal
-falseAt at = record { at = record { 0 = at }; number = 22 }
+falseAt at = refusedAt at 22
 
 -- 22 at the first false segment, or the counts if there is none
 abbrev pub answerTo : Option ℕ → Counts → Audited

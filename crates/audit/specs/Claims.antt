@@ -10,7 +10,7 @@ use Prim.Native.Nat.{ℕ, _+_, _≤_}
 use lib.ListN.{length}
 use Rattle.words.specs.Le.{Bytes}
 use Rattle.words.specs.Record.{IsHash, sameHash, wordsAt}
-use Rattle.rules.specs.declared.Refusal.{Refusal}
+use Rattle.words.specs.declared.Refusal.{Refusal}
 use Rattle.rules.specs.declared.Verdict.the-variants as verdict
 use Rattle.layout.specs.Layout.{Hash, Segment, XorbBlock, Shard, Each, segmentRow, totalsOf}
 use Rattle.layout.specs.Scan.{foundIn}

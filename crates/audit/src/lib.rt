@@ -1,5 +1,5 @@
 // The segments of a whole shard against the xorbs that it lists: a verdict apart from the reader's. What it is is said in specs/Audit.
-use rules::Refusal;
+use words::Refusal;
 
 mod blocks;
 mod segments;

@@ -16,7 +16,7 @@ use Rattle.words.specs.Record.{hashAt}
 use Rattle.cut.proofs.Runs.{run-nil}
 use Rattle.rules.specs.Rules.{sizeOf, faultIn}
 use Rattle.rules.specs.Verdicts.{verdictAt}
-use Rattle.rules.specs.declared.Refusal.{Refusal}
+use Rattle.words.specs.declared.Refusal.{Refusal}
 use Rattle.rules.specs.declared.Verdict.{Verdict}
 use Rattle.rules.specs.declared.Verdict.the-variants as verdict
 use Rattle.layout.specs.Scan.{format}

@@ -11,7 +11,7 @@ use Rattle.words.specs.Record.{IsHash, wordsAt, sameHash}
 use Rattle.words.specs.declared.Words.{Words}
 use Rattle.rules.specs.Kinds.{sameKind}
 use Rattle.rules.specs.declared.Record.{Record}
-use Rattle.rules.specs.declared.Position.{Position}
+use Rattle.words.specs.declared.Position.{Position}
 use Rattle.rules.specs.declared.BlockNumber.{BlockNumber}
 use Rattle.rules.specs.declared.ChunkIndex.{ChunkIndex}
 use Rattle.rules.specs.declared.Kind.{Kind}

@@ -11,7 +11,7 @@ use Rattle.words.specs.Record.{IsHash, hashAt, sameHash}
 use Rattle.words.specs.declared.Words.{Words}
 use Rattle.words.proofs.Records.{hash-is, hash-same}
 use Rattle.rules.specs.declared.Record.{Record}
-use Rattle.rules.specs.declared.Position.{Position}
+use Rattle.words.specs.declared.Position.{Position}
 use Rattle.rules.specs.declared.Kind.{Kind}
 use Rattle.finder.specs.Find.{partAt}
 use Rattle.finder.specs.Claims.{Has, NoneHas, First, There}

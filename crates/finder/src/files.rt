@@ -2,9 +2,9 @@
 use crate::FoundFile;
 use reader::last_place;
 use rules::FileNumber;
-use rules::Position;
 use rules::Verdict;
 use rules::further_records;
+use words::Position;
 use words::Words;
 use words::hash::is_ones;
 use words::hash::same_hash;

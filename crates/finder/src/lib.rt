@@ -2,8 +2,8 @@
 use rules::BlockNumber;
 use rules::ChunkIndex;
 use rules::FileNumber;
-use rules::Position;
-use rules::Refusal;
+use words::Position;
+use words::Refusal;
 
 mod chunks;
 mod files;

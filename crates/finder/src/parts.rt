@@ -1,5 +1,5 @@
 // The 48 bytes at a position, as a part of the caller's buffer.
-use rules::Position;
+use words::Position;
 use words::Words;
 ghost use mathlib.Core.Path.{_≡_};
 ghost use Rattle.finder.specs.Find.{partAt};

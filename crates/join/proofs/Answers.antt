@@ -15,7 +15,7 @@ use Rattle.rules.specs.declared.Due.{Due}
 use Rattle.rules.specs.declared.Due.the-variants as due
 use Rattle.rules.specs.declared.Due.the-variants.{Header, FileHead, Segment, Verification, Metadata, XorbHead, Chunk, Footer, End}
 use Rattle.rules.specs.declared.Place.{Place}
-use Rattle.rules.specs.declared.Refusal.{Refusal}
+use Rattle.words.specs.declared.Refusal.{Refusal}
 use Rattle.rules.specs.declared.Summary.{Summary}
 use Rattle.rules.specs.declared.Verdict.{Verdict}
 use Rattle.rules.specs.declared.Verdict.the-variants as verdict

@@ -7,7 +7,7 @@ use native.Mathlib.Omega.{arith}
 use lib.ListN.{length, drop, length-append, length-drop}
 use lib.Seq.{drop-at}
 use Rattle.words.specs.Le.{Bytes}
-use Rattle.rules.specs.declared.Refusal.{Refusal}
+use Rattle.words.specs.declared.Refusal.{Refusal}
 use Rattle.layout.specs.Layout.{Row, fileRows, xorbRows}
 use Rattle.layout.proofs.Lists.{joined-append}
 use Rattle.layout.proofs.Last.{spelling}

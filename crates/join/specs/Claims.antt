@@ -12,7 +12,7 @@ use Rattle.words.specs.Checks.{pick}
 use Rattle.words.specs.Le.{Bytes}
 use Rattle.rules.specs.Rules.{same31}
 use Rattle.rules.specs.declared.Record.{Record}
-use Rattle.rules.specs.declared.Refusal.{Refusal}
+use Rattle.words.specs.declared.Refusal.{Refusal}
 use Rattle.rules.specs.declared.Summary.{Summary}
 use Rattle.rules.specs.declared.Kind.{Kind}
 use Rattle.rules.specs.declared.Kind.the-variants as kind

@@ -2,10 +2,9 @@
 use crate::Joined;
 use reader::last_place;
 use rules::Place;
-use rules::Position;
-use rules::Refusal;
 use rules::Verdict;
 use rules::same_31;
+use words::Refusal;
 use words::Words;
 use words::number::u32_at;
 use words::part::put_part;
@@ -68,7 +67,7 @@ fn fault(one: Place, two: Place, same: bool, size: usize, room: usize) -> u32
     if !agree {
         return Refusal::BIT_31;
     }
-    if Position::LIMIT < size as u64 {
+    if Place::LIMIT < size as u64 {
         return Refusal::LIMIT;
     }
     if room < size {

@@ -7,6 +7,7 @@ use lib.ListN.{replicate}
 use Rattle.cut.specs.Format.{run, push, fill}
 use Rattle.words.specs.Le.{leAt, zerosAt, spell}
 use Rattle.words.specs.Record.{spellHash, spellWords}
+use Rattle.words.specs.Refusals.{refusedAt}
 use Rattle.rules.specs.Rules.{faultOf, kindOf, nextOf, counts}
 use Rattle.rules.specs.Verdicts.{verdictAt}
 use Rattle.layout.specs.Scan.{foundIn, scan}
@@ -44,7 +45,7 @@ abbrev pub accepted : ℕ → Totals → Bool → Verdict
 accepted length totals hasFooter = Accepted (record { length = length; totals = totals; footer = hasFooter })
 
 abbrev pub refused : ℕ → ℕ → Verdict
-refused number position = Refused (record { at = record { 0 = position }; number = number })
+refused number position = Refused (refusedAt position number)
 
 pub record Example : Type 0 where
   pub bytes : List ℕ

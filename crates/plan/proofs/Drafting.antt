@@ -8,7 +8,7 @@ use native.Mathlib.Omega.{arith}
 use lib.ListN.{length, drop}
 use Rattle.rules.specs.Rules.{start}
 use Rattle.rules.specs.Verdicts.{refusalAt}
-use Rattle.rules.specs.declared.Refusal.{Refusal}
+use Rattle.words.specs.declared.Refusal.{Refusal}
 use Rattle.layout.specs.Layout.{Segment}
 use Rattle.plan.specs.Plan.{Plan, fetch, refused, rowsFor, fileBytes, planFor, planOf, answerTo, tableTo}
 use Rattle.plan.specs.Claims.{InFile}

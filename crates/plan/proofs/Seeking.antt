@@ -13,7 +13,7 @@ use Rattle.words.specs.declared.Words.{Words}
 use Rattle.rules.specs.Rules.{limit, furtherRecords}
 use Rattle.rules.specs.Verdicts.{verdictAt}
 use Rattle.rules.specs.declared.Place.{Place}
-use Rattle.rules.specs.declared.Refusal.{Refusal}
+use Rattle.words.specs.declared.Refusal.{Refusal}
 use Rattle.rules.specs.declared.Summary.{Summary}
 use Rattle.rules.specs.declared.Verdict.{Verdict}
 use Rattle.rules.specs.declared.Verdict.the-variants as verdict

@@ -8,7 +8,7 @@ use mathlib.Core.List.{List}
 use Prim.Native.Nat.{ℕ, _+_, _-_, _≤_, _<_}
 use lib.ListN.{length, take, drop}
 use Rattle.words.specs.Le.{Bytes, part}
-use Rattle.rules.specs.declared.Refusal.{Refusal}
+use Rattle.words.specs.declared.Refusal.{Refusal}
 use Rattle.rules.specs.declared.Verdict.the-variants as verdict
 use Rattle.layout.specs.Layout.{Hash, Segment, FileBlock, Shard, Each, sumOf, joined}
 use Rattle.layout.specs.Scan.{foundIn}

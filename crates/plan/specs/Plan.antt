@@ -11,7 +11,7 @@ use Rattle.rules.specs.Kinds.{sameKind}
 use Rattle.rules.specs.Rules.{start}
 use Rattle.rules.specs.Verdicts.{refusalAt}
 use Rattle.rules.specs.declared.Record.{Record}
-use Rattle.rules.specs.declared.Refusal.{Refusal}
+use Rattle.words.specs.declared.Refusal.{Refusal}
 use Rattle.rules.specs.declared.Kind.the-variants as kind
 use Rattle.layout.specs.Layout.{Segment, FileBlock, sumOf}
 use Rattle.layout.specs.Blocks.{segmentOf, leading}

@@ -6,7 +6,7 @@ use crate::rows::Cursor;
 use crate::rows::measured;
 use rules::FileNumber;
 use rules::Place;
-use rules::Refusal;
+use words::Refusal;
 ghost use mathlib.Core.Path.{_≡_};
 ghost use Rattle.rules.specs.Rules.{start};
 ghost use Rattle.rules.specs.Verdicts.{refusalAt};

@@ -3,7 +3,7 @@ use crate::drafts::drafted;
 use crate::rows::next_row;
 use rules::ChunkIndex;
 use rules::FileNumber;
-use rules::Refusal;
+use words::Refusal;
 ghost use mathlib.Core.Path.{_≡_};
 ghost use lib.ListN.{length};
 ghost use Rattle.plan.specs.Plan.{planOf, answerTo, tableTo};

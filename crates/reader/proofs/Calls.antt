@@ -16,7 +16,7 @@ use Rattle.rules.specs.Verdicts.{refusalAt, verdictBy, verdictAt}
 use Rattle.rules.specs.declared.Place.{Place}
 use Rattle.rules.specs.declared.Due.{Due}
 use Rattle.rules.specs.declared.Due.the-variants.{Refused}
-use Rattle.rules.specs.declared.Refusal.{Refusal}
+use Rattle.words.specs.declared.Refusal.{Refusal}
 use Rattle.rules.specs.declared.Verdict.{Verdict}
 use Rattle.rules.specs.declared.Verdict.the-variants as verdict
 use Rattle.reader.specs.Stream.{noRecord, silent, settled, kept, stoppedBy, stopped, lacking, wholeIn, stepOf, verdictOf}

@@ -13,7 +13,7 @@ use Rattle.rules.specs.Rules.{sizeOf, nothing}
 use Rattle.rules.specs.Verdicts.{refusalAt}
 use Rattle.rules.specs.declared.Place.{Place}
 use Rattle.rules.specs.declared.Record.{Record}
-use Rattle.rules.specs.declared.Refusal.{Refusal}
+use Rattle.words.specs.declared.Refusal.{Refusal}
 use Rattle.rules.specs.declared.Due.the-variants.{Refused}
 use Rattle.rules.specs.declared.Verdict.the-variants as verdict
 use Rattle.layout.specs.Scan.{format, begin, scan, foundIn}

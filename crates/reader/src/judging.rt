@@ -2,8 +2,8 @@
 use crate::steps::start_for;
 use carry::hear;
 use rules::Place;
-use rules::Refusal;
 use rules::Verdict;
+use words::Refusal;
 use words::Words;
 use words::hash::hash_at;
 ghost use mathlib.Core.Path.{_≡_};

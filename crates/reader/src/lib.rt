@@ -2,7 +2,7 @@
 // call of the reader does is said in specs/Stream, and one turn of the judge in specs/Whole.
 use rules::Place;
 use rules::Record;
-use rules::Refusal;
+use words::Refusal;
 
 mod judging;
 mod lent;

@@ -2,9 +2,8 @@
 // Nothing here wraps: a sum is formed only once its parts are known to be small, and else a difference is compared.
 use crate::Due;
 use crate::Place;
-use crate::Position;
-use crate::Refusal;
 use words::Footer;
+use words::Refusal;
 use words::Words;
 use words::hash::is_ones;
 use words::hash::same_hash;
@@ -97,8 +96,8 @@ fn fits_in(p: u64, m: u64, rest: u64) -> bool
     requires { ⌜ (m < 17179869184) × (rest < 1000) ⌝ }
     ensures { λ r. ⌜ r ≡ fits p m rest ⌝ }
 {
-    if p <= Position::LIMIT {
-        p + 48 + 48 * m + rest <= Position::LIMIT
+    if p <= Place::LIMIT {
+        p + 48 + 48 * m + rest <= Place::LIMIT
     } else {
         false
     }

@@ -1,7 +1,7 @@
 // Kinds of record: their rows in the paper's table, which of them are due, and the number where one is not.
 use crate::Due;
 use crate::Kind;
-use crate::Refusal;
+use words::Refusal;
 ghost use mathlib.Core.Path.{_≡_};
 ghost use Rattle.rules.specs.Kinds.{rowOf, sameKind, isDue, notDue};
 

@@ -1,4 +1,6 @@
 // The format: its types, and in code the rules that specs/Rules writes down. Reader, writer, finder, join, plan and audit all go by these.
+use words::Position;
+use words::Refusal;
 use words::Words;
 
 mod checks;
@@ -13,8 +15,6 @@ ghost use Prim.Native.Nat.{_<_};
 ghost use Rattle.rules.specs.Rules.{movedTo};
 
 // Kinds of number that are not exchangeable.
-pub struct Position(pub u64);
-
 pub struct FileNumber(pub u32);
 
 pub struct BlockNumber(pub u32);
@@ -22,11 +22,6 @@ pub struct BlockNumber(pub u32);
 // It crosses to a host as it is, in a table of planned rows.
 #[repr(C)]
 pub struct ChunkIndex(pub u32);
-
-impl Position {
-    // No shard goes past this position.
-    pub const LIMIT: u64 = 16777216;
-}
 
 // The rows of the paper's table.
 pub enum Kind {
@@ -76,6 +71,9 @@ pub struct Place {
 }
 
 impl Place {
+    // No shard goes past this position.
+    pub const LIMIT: u64 = 16777216;
+
     // The place at another position, with other totals and something else due. (Its offset has 64 bits, as every field of its type.)
     fn moved_to(self, at: u64, totals: Totals, due: Due) -> Place
         ensures { λ r. ⌜ (r ≡ movedTo at totals due self) × (self .offset .0 < 18446744073709551616) ⌝ }
@@ -99,54 +97,6 @@ pub struct Record {
     pub offset: Position,
     pub words: Words,
     pub kind: Kind,
-}
-
-pub struct Refusal {
-    pub at: Position,
-    pub number: u32,
-}
-
-// The numbers of refusal.
-impl Refusal {
-    pub const ENDS_EARLY: u32 = 1;
-
-    pub const TAG_LENGTH: u32 = 2;
-
-    pub const TAG: u32 = 3;
-
-    pub const VERSION: u32 = 4;
-
-    pub const FOOTER_SIZE: u32 = 5;
-
-    pub const LIMIT: u32 = 6;
-
-    pub const RESERVED: u32 = 7;
-
-    pub const ALL_ONES: u32 = 8;
-
-    pub const BIT_31: u32 = 9;
-
-    pub const SEGMENT: u32 = 10;
-
-    pub const CHUNK_SUM: u32 = 11;
-
-    pub const FOOTER_VERSION: u32 = 12;
-
-    pub const OFFSET: u32 = 13;
-
-    pub const AFTER_END: u32 = 14;
-
-    pub const BUFFER: u32 = 15;
-
-    pub const NOT_DUE: u32 = 16;
-
-    pub const NO_FILE: u32 = 17;
-
-    pub const RANGE: u32 = 18;
-
-    pub const FALSE_SEGMENT: u32 = 22;
-
-    pub const FOOTER: u32 = 30;
 }
 
 // What is said of an accepted shard.

@@ -2,12 +2,12 @@
 use crate::Due;
 use crate::Kind;
 use crate::Place;
-use crate::Position;
 use crate::Record;
 use crate::Totals;
 use crate::checks::bit_30;
 use crate::checks::bit_31;
 use words::Footer;
+use words::Position;
 use words::Words;
 use words::hash::is_ones;
 use words::number::joined;

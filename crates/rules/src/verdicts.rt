@@ -2,11 +2,11 @@
 use crate::Due;
 use crate::Numbers;
 use crate::Place;
-use crate::Position;
-use crate::Refusal;
 use crate::Summary;
 use crate::Totals;
 use crate::Verdict;
+use words::Position;
+use words::Refusal;
 ghost use mathlib.Core.Path.{_≡_};
 ghost use Rattle.rules.specs.Verdicts.{refused, refusalAt, summaryOf, verdictAt, numbersOf};
 

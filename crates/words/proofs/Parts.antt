@@ -47,6 +47,12 @@ module _ (n : ℕ) (s : List ℕ) (p : ℕ) where
       )
 
 -- the part may be the front, with any bytes behind it
+pub le-front : (w : ℕ) (bs z : List ℕ) (k : ℕ) → k + w ≤ length bs → leAt w (bs ++ z) k ≡ leAt w bs k
+le-front w bs z k h = sym (le-there (length bs) (bs ++ z) 0 w k k h (omega arith)) ∙ ap (λ (l : List ℕ). leAt w l k) (take-append-seam bs z)
+
+pub zeros-front : (w : ℕ) (bs z : List ℕ) (k : ℕ) → k + w ≤ length bs → zerosAt w (bs ++ z) k ≡ zerosAt w bs k
+zeros-front w bs z k h = sym (zeros-there (length bs) (bs ++ z) 0 w k k h (omega arith)) ∙ ap (λ (l : List ℕ). zerosAt w l k) (take-append-seam bs z)
+
 pub words-front : (bs z : List ℕ) (k : ℕ) → k + 48 ≤ length bs → wordsAt (bs ++ z) k ≡ wordsAt bs k
 words-front bs z k h = sym (words-there (length bs) (bs ++ z) 0 k k h (omega arith)) ∙ ap (λ (l : List ℕ). wordsAt l k) (take-append-seam bs z)
 

@@ -1,3 +1,4 @@
 pub mod Checks
 pub mod Le
 pub mod Record
+pub mod Refusals

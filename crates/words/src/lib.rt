@@ -41,3 +41,67 @@ impl Words {
 impl Footer {
     pub const SIZE: usize = 200;
 }
+
+// Where a byte is, counted from the start of what was read or is written.
+pub struct Position(pub u64);
+
+// Why bytes, or what was asked, are refused, and where.
+pub struct Refusal {
+    pub at: Position,
+    pub number: u32,
+}
+
+// The numbers of refusal, those of the shard and, from 24 to 29, those of the blob files.
+impl Refusal {
+    pub const ENDS_EARLY: u32 = 1;
+
+    pub const TAG_LENGTH: u32 = 2;
+
+    pub const TAG: u32 = 3;
+
+    pub const VERSION: u32 = 4;
+
+    pub const FOOTER_SIZE: u32 = 5;
+
+    pub const LIMIT: u32 = 6;
+
+    pub const RESERVED: u32 = 7;
+
+    pub const ALL_ONES: u32 = 8;
+
+    pub const BIT_31: u32 = 9;
+
+    pub const SEGMENT: u32 = 10;
+
+    pub const CHUNK_SUM: u32 = 11;
+
+    pub const FOOTER_VERSION: u32 = 12;
+
+    pub const OFFSET: u32 = 13;
+
+    pub const AFTER_END: u32 = 14;
+
+    pub const BUFFER: u32 = 15;
+
+    pub const NOT_DUE: u32 = 16;
+
+    pub const NO_FILE: u32 = 17;
+
+    pub const RANGE: u32 = 18;
+
+    pub const FALSE_SEGMENT: u32 = 22;
+
+    pub const BLOB_ENDS_EARLY: u32 = 24;
+
+    pub const BLOB_MAGIC: u32 = 25;
+
+    pub const BLOB_VERSION: u32 = 26;
+
+    pub const BLOB_HEX: u32 = 27;
+
+    pub const BLOB_RESERVED: u32 = 28;
+
+    pub const BLOB_DATA: u32 = 29;
+
+    pub const FOOTER: u32 = 30;
+}

@@ -4,6 +4,12 @@ ghost use Prim.Native.Nat.{_+_, _*_, _≤_, _<_};
 ghost use lib.ListN.{length, replicate};
 ghost use Rattle.words.specs.Le.{leAt, puts, spell, zerosAt, long, low, high};
 
+fn le16(a: u8, b: u8) -> u16
+    ensures { λ r. ⌜ r ≡ a + 256 * (b + 256 * 0) ⌝ }
+{
+    a as u16 + 256 * (b as u16)
+}
+
 fn le32(a: u8, b: u8, c: u8, d: u8) -> u32
     ensures { λ r. ⌜ r ≡ a + 256 * (b + 256 * (c + 256 * (d + 256 * 0))) ⌝ }
 {
@@ -23,6 +29,14 @@ fn le64(a: u8, b: u8, c: u8, d: u8, e: u8, f: u8, g: u8, h: u8) -> u64
                                 + 256
                                     * (e as u64
                                         + 256 * (f as u64 + 256 * (g as u64 + 256 * (h as u64)))))))
+}
+
+pub fn u16_at(s: &[u8], at: usize) -> u16
+    requires { ⌜ at + 2 ≤ length (now s) ⌝ }
+    ensures { λ r. ⌜ r ≡ leAt 2 (now (s .entry)) at ⌝ }
+{
+    let p1 = at + 1;
+    le16(s[at], s[p1])
 }
 
 pub fn u32_at(s: &[u8], at: usize) -> u32
@@ -49,6 +63,16 @@ pub fn u64_at(s: &[u8], at: usize) -> u64
     le64(s[at], s[p1], s[p2], s[p3], s[p4], s[p5], s[p6], s[p7])
 }
 
+pub fn put_u16(buf: &mut [u8], at: usize, x: u16)
+    requires { ⌜ at + 2 ≤ length (now buf) ⌝ }
+    ensures { λ _. ⌜ now (buf .exit) ≡ puts (now (buf .entry)) at (spell 2 x) ⌝ }
+{
+    let x1 = x / 256;
+    let p1 = at + 1;
+    buf[at] = (x % 256) as u8;
+    buf[p1] = (x1 % 256) as u8;
+}
+
 pub fn put_u32(buf: &mut [u8], at: usize, x: u32)
     requires { ⌜ at + 4 ≤ length (now buf) ⌝ }
     ensures { λ _. ⌜ now (buf .exit) ≡ puts (now (buf .entry)) at (spell 4 x) ⌝ }
@@ -73,20 +97,20 @@ pub fn put_u64(buf: &mut [u8], at: usize, x: u64)
     put_u32(buf, at + 4, (x / 4294967296) as u32);
 }
 
+// It looks at all bytes, many at a time, rather than stop at the first that is not 0.
 pub fn zeros_at(s: &[u8], at: usize, n: usize) -> bool
     requires { ⌜ at + n ≤ length (now s) ⌝ }
     ensures { λ r. ⌜ r ≡ zerosAt n (now (s .entry)) at ⌝ }
 {
+    let mut zeros = true;
     let mut i = at;
     let mut left = n;
     while 0 < left {
-        if s[i] != 0 {
-            return false;
-        }
+        zeros = zeros & (s[i] == 0);
         i += 1;
         left -= 1;
     }
-    true
+    zeros
 }
 
 pub fn put_zeros(buf: &mut [u8], at: usize, n: usize)

@@ -19,7 +19,7 @@ use Rattle.rules.specs.Rules.{sizeOf, recordOf, start}
 use Rattle.rules.specs.Verdicts.{refused}
 use Rattle.rules.specs.Kinds.{isDue}
 use Rattle.rules.specs.declared.Place.{Place}
-use Rattle.rules.specs.declared.Refusal.{Refusal}
+use Rattle.words.specs.declared.Refusal.{Refusal}
 use Rattle.writer.specs.Offers.{kindOffered, wordsOf}
 use Rattle.writer.specs.declared.Offer.{Offer}
 use Rattle.writer.specs.Write.{isHead, isFooter, refuses, checked, bytesOf, answerOf, nextBy, bufferBy, writtenOf, bufferOf, fresh}

@@ -8,7 +8,7 @@ use Rattle.words.specs.Le.{Bytes}
 use Rattle.rules.specs.Rules.{recordOf}
 use Rattle.rules.specs.Held.{held}
 use Rattle.rules.specs.declared.Record.{Record}
-use Rattle.rules.specs.declared.Refusal.{Refusal}
+use Rattle.words.specs.declared.Refusal.{Refusal}
 use Rattle.writer.specs.Offers.{wordsOf, offerOf, InRange}
 use Rattle.writer.specs.declared.Offer.{Offer}
 use Rattle.layout.specs.Layout.{Each}

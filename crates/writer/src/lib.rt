@@ -1,6 +1,6 @@
 // The writer: a shard record by record, each into a lent buffer. What is offered, and the record that is made of it, is said in specs/Offers, what a call does in specs/Write.
 use rules::Place;
-use rules::Refusal;
+use words::Refusal;
 
 mod offers;
 mod writing;
