@@ -1,13 +1,14 @@
-/* Shards read, written, joined and audited, and stretches of their files planned, for C. `./archive` makes the library,
- * target/staticlib/libmelagbosun.a (x86-64); link it with `cc program.c -Iinclude -Ltarget/staticlib -lmelagbosun`.
+/* Shards read, written, joined and audited, stretches of their files planned, and the old blob files read and written, for C.
+ * `./archive` makes the library, target/staticlib/libmelagbosun.a (x86-64); link it with
+ * `cc program.c -Iinclude -Ltarget/staticlib -lmelagbosun`.
  *
  * No call keeps, allocates or frees anything: a state goes in by value and the next one comes back in the answer. A lent
  * slice is a pointer and a length; an empty one may have any pointer but NULL, and one that is written overlaps no other of
  * the same call.
  *
  * Each function is proved to answer, for every state and all bytes, what crates/host/specs says, by way of the specs of
- * reader, writer, finder, join, plan and audit. A state that was not given out by these functions still gets an answer and touches
- * nothing but the lent bytes.
+ * reader, writer, finder, join, plan, audit and blobs. A state that was not given out by these functions still gets an answer and
+ * touches nothing but the lent bytes.
  */
 #ifndef MELAGBOSUN_H
 #define MELAGBOSUN_H
@@ -19,8 +20,8 @@
 extern "C" {
 #endif
 
-/* Why a shard, a tag, an offer, a join, a plan or an audit was refused. Unless another is named, the position is that where the
- * record starts. */
+/* Why a shard, a tag, an offer, a join, a plan, an audit or a blob file's entry was refused. Unless another is named, the position
+ * is that where the record starts, or the entry. */
 enum mdb_refusal {
     MDB_ENDS_EARLY = 1,      /* the input ends inside or before a record still due */
     MDB_TAG_LENGTH = 2,      /* the tag is not 32 bytes; position 0 */
@@ -39,11 +40,19 @@ enum mdb_refusal {
     MDB_AFTER_END = 14,      /* a byte follows the end; position of that byte */
     MDB_BUFFER = 15,         /* writer: the buffer is shorter than the record; reader: the carry is shorter than MDB_CARRY, or the
                                 table than a row; join: the buffer is shorter than the result, position 0; plan: the table
-                                has fewer rows than are needed, position 0 */
+                                has fewer rows than are needed, position 0; writing an entry: the buffer is shorter than its 110
+                                bytes and the data, position 0 */
     MDB_NOT_DUE = 16,        /* writer: this kind of record is not due now, or there is no such kind */
     MDB_NO_FILE = 17,        /* plan: the shard has no file of that number; position 0 */
     MDB_RANGE = 18,          /* plan: a is not below b, or b is past the file's end; position 0 */
     MDB_FALSE_SEGMENT = 22,  /* audit: a segment is false of the xorb that it names, which the shard lists */
+    MDB_BLOB_SHORT = 24,     /* entry: fewer than 110 bytes are left at its position */
+    MDB_BLOB_MAGIC = 25,     /* entry: it does not begin with "MSHB" */
+    MDB_BLOB_VERSION = 26,   /* entry: the version is not 1 */
+    MDB_BLOB_HEX = 27,       /* entry: one of the hash's 64 characters is no hex digit; writing an entry: the hash is not 64 such
+                                digits, position 0 */
+    MDB_BLOB_RESERVED = 28,  /* entry: one of the 32 reserved bytes is not 0 */
+    MDB_BLOB_DATA = 29,      /* entry: its data end past the buffer's end */
     MDB_HAS_FOOTER = 30      /* join: one of the shards has a footer; position 0 */
 };
 
@@ -192,6 +201,28 @@ typedef struct {
     uint32_t number;   /* enum mdb_refusal, else 0 */
 } mdb_audited;
 
+/* What is at a position of a blob file. Number 0 is an entry: the 64 digits of its hash stand at `digits`, its data, `length` bytes
+ * of them, at `data`, and behind these, at `next`, is the place of the next entry. Else the refusal, and zeros for these. */
+typedef struct {
+    uint64_t digits, data, length, next;
+    uint64_t at;
+    uint32_t number;
+} mdb_blob_entry;
+
+/* What writing an entry came to. Number 0 is done; else `wrote` is 0 and the buffer is untouched. */
+typedef struct {
+    uint64_t wrote;
+    uint64_t at;
+    uint32_t number;
+} mdb_blob_put;
+
+/* What a scan came to. Number 0 is a good file: so many entries, and the sum of their data lengths. Else the refusal, and zeros. */
+typedef struct {
+    uint64_t entries, bytes;
+    uint64_t at;
+    uint32_t number;
+} mdb_blob_scanned;
+
 /* The verdict on a whole shard. */
 mdb_verdict mdb_judge(const uint8_t *tag, size_t tag_length, const uint8_t *shard, size_t length);
 
@@ -222,6 +253,20 @@ mdb_planned mdb_plan(const uint8_t *tag, size_t tag_length, const uint8_t *shard
  * 1,000 xorbs and 100,000 listed segments took 0.4 s, and the worst, as many empty xorbs as unlisted segments up to the limit,
  * 2 minutes. */
 mdb_audited mdb_audit(const uint8_t *tag, size_t tag_length, const uint8_t *shard, size_t shard_length);
+
+/* The entry of a blob file at a position, any position. An entry is 110 bytes and its data: "MSHB", a version of 16 bits that is 1,
+ * the data length in 64 bits, the 64 hex digits of a hash, of either case, and 32 zero bytes; then the data. Refused in this order,
+ * at the position asked for: 24, 25, 26, 27, 28, 29. At the buffer's end and past it that is 24. */
+mdb_blob_entry mdb_blob_entry_at(const uint8_t *buffer, size_t length, uint64_t at);
+
+/* An entry, at the start of the buffer: 110 bytes and the data. Only these change. Digits are kept as they are given. Refused in
+ * this order: 27, 15. */
+mdb_blob_put mdb_blob_put_entry(const uint8_t *digits, size_t digits_length, const uint8_t *data, size_t data_length,
+                                uint8_t *buffer, size_t buffer_length);
+
+/* All entries of a blob file, from position 0 on. The end is no fault, and an empty file is good with no entries. Refused with the
+ * first refusal of an entry. */
+mdb_blob_scanned mdb_blob_scan(const uint8_t *buffer, size_t length);
 
 /* A fresh reader. A tag that is not 32 bytes gives one that has refused with 2. */
 mdb_reader mdb_reader_new(const uint8_t *tag, size_t length);

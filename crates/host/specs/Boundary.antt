@@ -6,12 +6,13 @@ use mathlib.Core.List.{List}
 use lib.Dec.{eqb, ltb}
 use Rattle.words.specs.Checks.{pick}
 use Rattle.words.specs.Le.{low}
+use Rattle.words.specs.Refusals.{refusedAt}
 use Rattle.rules.specs.Kinds.{rowOf, notDue}
 use Rattle.rules.specs.Verdicts.{numbersOf}
 use Rattle.rules.specs.declared.Totals.{Totals}
 use Rattle.rules.specs.declared.Place.{Place}
 use Rattle.rules.specs.declared.Record.{Record}
-use Rattle.rules.specs.declared.Refusal.{Refusal}
+use Rattle.words.specs.declared.Refusal.{Refusal}
 use Rattle.rules.specs.declared.Verdict.{Verdict}
 use Rattle.rules.specs.declared.Due.{Due}
 use Rattle.rules.specs.declared.Due.the-variants as due
@@ -181,7 +182,7 @@ saidOut (said.Refused refusal) = 2
 
 -- where nothing was refused, number and position are 0
 abbrev noRefusal : Refusal
-noRefusal = record { at = record { 0 = 0 }; number = 0 }
+noRefusal = refusedAt 0 0
 
 abbrev pub refusalIn : Said → Refusal
 refusalIn said.Nothing = noRefusal

@@ -1,4 +1,5 @@
 pub mod Audits
+pub mod BlobAnswers
 pub mod Boundary
 pub mod Claims
 pub mod Founds

@@ -1,7 +1,8 @@
 // What crosses to C: states and answers as structs of numbers, and the ways out and in again. The functions that a host calls
-// are in host_read, host_step, host_write and host_whole. What each number means is said in specs/Boundary, Founds, Joins, Plans
-// and Audits, and for C in include/melagbosun.h.
+// are in host_read, host_step, host_write, host_whole and host_blobs. What each number means is said in specs/Boundary, Founds, Joins,
+// Plans, Audits and BlobAnswers, and for C in include/melagbosun.h.
 pub mod audits;
+pub mod blob_answers;
 pub mod founds;
 pub mod joins;
 mod places;
@@ -170,6 +171,35 @@ pub struct PlannedState {
 pub struct AuditedState {
     pub listed: u64,
     pub unlisted: u64,
+    pub at: u64,
+    pub number: u32,
+}
+
+// What is found of a blob file's entry: where its digits and its data are and how many bytes these have, and the next position; or zeros
+// and the refusal.
+#[repr(C)]
+pub struct EntryState {
+    pub digits: u64,
+    pub data: u64,
+    pub length: u64,
+    pub next: u64,
+    pub at: u64,
+    pub number: u32,
+}
+
+// What writing an entry gives: so many bytes were written, or 0 and the refusal.
+#[repr(C)]
+pub struct PutState {
+    pub wrote: u64,
+    pub at: u64,
+    pub number: u32,
+}
+
+// What a scan gives: how many entries there are and the sum of their data lengths, or zeros and the refusal.
+#[repr(C)]
+pub struct ScannedState {
+    pub entries: u64,
+    pub bytes: u64,
     pub at: u64,
     pub number: u32,
 }

@@ -4,8 +4,8 @@ use crate::PlaceState;
 use crate::TotalsState;
 use rules::Due;
 use rules::Place;
-use rules::Position;
 use rules::Totals;
+use words::Position;
 ghost use mathlib.Core.Path.{_≡_};
 ghost use Rattle.host.specs.Boundary.{yes, mark, totalsIn, totalsOut, dueIn, dueOut, placeIn, placeOut};
 

@@ -1,0 +1,9 @@
+pub mod Heads
+pub mod Entries
+pub mod Counting
+pub mod Written
+pub mod Stands
+pub mod Files
+pub mod ReadClaims
+pub mod ScanClaims
+pub mod WriteClaims

@@ -1,0 +1,104 @@
+-- What the writer's six stores leave, and its checks, by the tests as the code makes them: stores side by side are one. Assumes nothing.
+use mathlib.Core.Path.{_≡_, refl}
+use Prim.Native.Nat.{ℕ, _+_, _≤_, _<_}
+use native.Mathlib.Omega.{arith}
+use mathlib.Core.Bool.{Bool, true, false}
+use mathlib.Core.List.{List, _++_}
+use lib.ListN.{length, take, replicate, length-append, length-replicate}
+use lib.Seq.{take-all}
+use lib.Dec.{eqb, leb}
+use borrow.Author.Tests.{le-leb, lt-leb, ne-eqb, eq-eqb, leb-true, eqb-true}
+use Rattle.words.specs.Checks.{_unless_then_, fine}
+use Rattle.words.specs.Le.{spell, puts}
+use Rattle.words.specs.Refusals.{refusedAt}
+use Rattle.words.proofs.Numbers.{length-spell}
+use Rattle.words.proofs.Stores.{puts-then}
+use Rattle.blobs.specs.declared.Put.the-variants as put
+use Rattle.blobs.specs.Blobs.{Blob, magic, areDigits, spellEntry, putFault, putOf, bufferOf}
+use Rattle.blobs.specs.Claims.{Allowed}
+
+pub magic-spelled : spell 4 1112036173 ≡ magic
+unfolding spell
+magic-spelled = refl
+
+-- ## Where each part of an entry begins
+
+module _ (b : Blob) (h : length (b .digits) ≡ 64) where
+  pub length-entry : length (spellEntry b) ≡ 110 + length (b .«data»)
+  unfolding spellEntry
+  length-entry = simp (length-append, length-spell, length-replicate) (omega arith)
+
+  length-six : length (magic ++ spell 2 1) ≡ 6
+  length-six = simp length-spell (omega arith)
+
+  length-head : length (magic ++ spell 2 1 ++ spell 8 (length (b .«data»))) ≡ 14
+  length-head = simp (length-append, length-spell) (omega arith)
+
+  length-hashed : length (magic ++ spell 2 1 ++ spell 8 (length (b .«data»)) ++ b .digits) ≡ 78
+  length-hashed = simp (length-append, length-spell) (omega arith)
+
+  length-headed : length (magic ++ spell 2 1 ++ spell 8 (length (b .«data»)) ++ b .digits ++ replicate 32 0) ≡ 110
+  length-headed = simp (length-append, length-spell, length-replicate) (omega arith)
+
+  pub six-stores : (l₀ : List ℕ) {l₁ l₂ l₃ l₄ l₅ l₆ : List ℕ} → l₁ ≡ puts l₀ 0 (spell 4 1112036173) → l₂ ≡ puts l₁ 4 (spell 2 1) → l₃ ≡ puts l₂ 6 (spell 8 (length (b .«data»)))
+      → l₄ ≡ puts l₃ 14 (take 64 (b .digits)) → l₅ ≡ puts l₄ 78 (replicate 32 0) → l₆ ≡ puts l₅ 110 (take (length (b .«data»)) (b .«data»)) → l₆ ≡ puts l₀ 0 (spellEntry b)
+  unfolding spellEntry
+  six-stores l₀ p₁ p₂ p₃ p₄ p₅ p₆ =
+      let t₄ = rw (take-all 64 (b .digits) (omega arith)) at p₄ in
+      let t₆ = rw (take-all (length (b .«data»)) (b .«data») (omega arith)) at p₆ in
+      puts-then 110 l₀ 0 (magic ++ spell 2 1 ++ spell 8 (length (b .«data»)) ++ b .digits ++ replicate 32 0) (b .«data») length-headed
+      (puts-then 78 l₀ 0 (magic ++ spell 2 1 ++ spell 8 (length (b .«data»)) ++ b .digits) (replicate 32 0) length-hashed
+      (puts-then 14 l₀ 0 (magic ++ spell 2 1 ++ spell 8 (length (b .«data»))) (b .digits) length-head
+      (puts-then 6 l₀ 0 (magic ++ spell 2 1) (spell 8 (length (b .«data»))) length-six
+      (puts-then 4 l₀ 0 magic (spell 2 1) refl (rw (← magic-spelled) p₁) p₂) p₃) t₄) p₅) t₆
+
+-- ## The checks
+
+module _ (digits : List ℕ) (n room : ℕ) where
+  pub other-size : (length digits ≡ 64 → ⊥) → 27 ≡ putFault digits n room
+  unfolding putFault
+  other-size h = rw (ne-eqb (length digits) 64 h)
+
+  module _ (e : length digits ≡ 64) where
+    pub not-hex : areDigits digits ≡ false → 27 ≡ putFault digits n room
+    unfolding putFault
+    not-hex d = rw (eq-eqb (length digits) 64 e, d)
+
+    pub no-room : areDigits digits ≡ true → room < 110 + n → 15 ≡ putFault digits n room
+    unfolding putFault
+    no-room d l = rw (eq-eqb (length digits) 64 e, d, lt-leb _ _ l)
+
+    pub may-write : areDigits digits ≡ true → 110 + n ≤ room → 0 ≡ putFault digits n room
+    unfolding putFault
+    may-write d l = rw (eq-eqb (length digits) 64 e, d, le-leb _ _ l)
+
+-- what no fault says
+record ThreeTrue (a b c : Bool) : Type 0 where
+  pub one : a ≡ true
+  pub two : b ≡ true
+  pub three : c ≡ true
+
+three-true : (a b c : Bool) → (27 unless a then 27 unless b then 15 unless c then fine) ≡ 0 → ThreeTrue a b c
+three-true true true true p = record { one = refl; two = refl; three = refl }
+three-true false b c p = absurd (omega arith)
+three-true true false c p = absurd (omega arith)
+three-true true true false p = absurd (omega arith)
+
+pub allowed : (digits : List ℕ) (n room : ℕ) → putFault digits n room ≡ 0 → Allowed digits n room
+unfolding putFault
+allowed digits n room p =
+    let a : ThreeTrue (eqb (length digits) 64) (areDigits digits) (leb (110 + n) room) = three-true _ _ _ p in
+    record { size = eqb-true _ _ (a .one); hex = a .two; fits = leb-true _ _ (a .three) }
+
+-- ## What the writer answers and leaves
+
+module _ (digits bytes buf : List ℕ) where
+  pub written : putFault digits (length bytes) (length buf) ≡ 0 → {l : List ℕ} → l ≡ puts buf 0 (spellEntry (record { digits = digits; «data» = bytes }))
+      → (put.Wrote (110 + length bytes) ≡ putOf digits bytes (length buf)) × (l ≡ bufferOf digits bytes buf)
+  unfolding putOf bufferOf
+  written p e = (rw p, rw (p, e))
+
+  pub not-written : (putFault digits (length bytes) (length buf) ≡ 0 → ⊥) → {k : ℕ} → k ≡ putFault digits (length bytes) (length buf)
+      → (put.Refused (refusedAt 0 k) ≡ putOf digits bytes (length buf)) × (buf ≡ bufferOf digits bytes buf)
+  unfolding putOf bufferOf
+  not-written n e = (rw (ne-eqb (putFault digits (length bytes) (length buf)) 0 n, e), rw (ne-eqb (putFault digits (length bytes) (length buf)) 0 n))

@@ -1,0 +1,3 @@
+pub mod Blobs
+pub mod Claims
+pub mod Examples

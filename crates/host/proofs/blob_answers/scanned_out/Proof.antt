@@ -1,0 +1,13 @@
+-- `scanned_out` meets its contract: an answer has two cases. Assumes nothing.
+use borrow.Author.Needs.{needs}
+use Rattle.host.proofs.blob_answers.scanned_out.Statement.{statement}
+use Rattle.host.proofs.blob_answers.scanned_out.Tie as tie
+
+returns : tie.Need-returns
+returns c = rw (c .before .s .given .1)
+
+returns-2 : tie.Need-returns-2
+returns-2 c = rw (c .before .s2 .given .1)
+
+pub scanned-out-spec : {M : Type 1} → statement M
+scanned-out-spec = tie.close (tie.spec (λ c. search needs) (λ c. search needs) returns returns-2)
