@@ -2,9 +2,9 @@
 use crate::shard::Shard;
 use crate::shard::TAG;
 use rules::Verdict;
-use shardline::text::number;
-use shardline::text::refused;
-use shardline::text::say;
+use text::number;
+use text::refused;
+use text::say;
 use trial::again::Copying;
 use trial::pieces::in_one;
 use trial::pieces::in_pieces;

@@ -14,7 +14,7 @@ use Rattle.cut.specs.Format.{Run}
 use Rattle.cut.proofs.Runs.{run-nil}
 use Rattle.rules.specs.Rules.{sizeOf}
 use Rattle.rules.specs.Verdicts.{verdictAt}
-use Rattle.rules.specs.declared.Refusal.{Refusal}
+use Rattle.words.specs.declared.Refusal.{Refusal}
 use Rattle.rules.specs.declared.Verdict.{Verdict}
 use Rattle.rules.specs.declared.Verdict.the-variants as verdict
 use Rattle.rules.specs.declared.Place.{Place}

@@ -10,7 +10,6 @@ use text::refused;
 use text::say;
 
 pub mod feed;
-pub mod text;
 
 // A reader for the tag in tag.bin. One byte more than a tag is read, so that a longer file shows; where there is no file, the tag is empty.
 fn reader_for_tag() -> Reader {

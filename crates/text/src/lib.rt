@@ -1,6 +1,6 @@
 // Words, numbers and refusals on standard output.
 use libc::STDOUT_FILENO;
-use rules::Refusal;
+use words::Refusal;
 
 pub fn say(text: &[u8]) {
     io::write_all(STDOUT_FILENO, text);

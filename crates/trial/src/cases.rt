@@ -1,6 +1,6 @@
 // Cases on standard input, part by part: a part says its length first, in one byte or in four.
 use libc::STDIN_FILENO;
-use shardline::text::say;
+use text::say;
 use words::number::u32_at;
 ghost use Prim.Native.Nat.{_≤_};
 ghost use lib.ListN.{length};

@@ -1,10 +1,10 @@
 // A shard read in pieces, and verdicts compared.
 use reader::Reader;
-use rules::Refusal;
 use rules::Summary;
 use rules::Totals;
 use rules::Verdict;
 use shardline::feed::fed;
+use words::Refusal;
 ghost use Prim.Native.Nat.{_≤_, _<_};
 
 // Where a piece ends that starts at a position and has so many bytes, at least one.

@@ -1,9 +1,9 @@
 // Verdicts as they are told: in one line, with no line end.
 use rules::Summary;
 use rules::Verdict;
-use shardline::text::number;
-use shardline::text::refused;
-use shardline::text::say;
+use text::number;
+use text::refused;
+use text::say;
 
 // A number behind its name.
 pub fn named(name: &[u8], n: u64) {

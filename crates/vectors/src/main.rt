@@ -1,6 +1,6 @@
 // Judges the cases on standard input, one after the other, and writes one line for each. A case is one byte T, T bytes of tag, four bytes N
 // (little-endian) and N bytes of shard. Each shard is read in one piece, again in small ones, and judged whole.
-use shardline::text::say;
+use text::say;
 use trial::cases::SHARD_MOST;
 use trial::cases::TAG_MOST;
 use trial::cases::broken_said;
