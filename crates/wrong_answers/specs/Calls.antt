@@ -1,8 +1,8 @@
--- Wrong answers of the functions that a host calls, in `host_read`, `host_step`, `host_write` and `host_whole`: what the operation inside promises, as it crosses.
+-- Wrong answers of the functions that a host calls, in `host_read`, `host_step`, `host_write`, `host_whole` and `host_blobs`: what the operation inside promises, as it crosses.
 use mathlib.Core.Path.{refl}
 use mathlib.Core.List.{List, [], _∷_}
 use Rattle.cut.specs.Format.{run, push, fill}
-use Rattle.words.specs.Le.{leAt, zerosAt, spell, puts}
+use Rattle.words.specs.Le.{leAt, leNum, zerosAt, spell, puts}
 use Rattle.words.specs.Record.{spellHash, spellWords, spellFooter}
 use Rattle.rules.specs.Rules.{faultOf, kindOf, recordOf, nextOf}
 use Rattle.rules.specs.Held.{held}
@@ -23,11 +23,14 @@ use Rattle.join.specs.Join as join
 use Rattle.join.specs.Join.{joinedAt, joinedBytes, joinFault, answerFor, joinOf}
 use Rattle.plan.specs.Plan.{rowsFor, segmentsIn, planOf, answerTo, tableTo}
 use Rattle.audit.specs.Audit.{firstFalse, auditIn, placedIn, blocksIn, auditOf}
+use Rattle.blobs.specs.Blobs as blobs
+use Rattle.blobs.specs.Blobs.{areDigits, spellEntry, headOf, wholeOf, entryAt, putFault, putOf, scanFrom, scanOf}
 use Rattle.host.specs.Boundary.{readerIn, readerOut, stepOut, readOut, verdictOut, writerIn, writerOut, writtenOut, writtenFor, bufferFor}
 use Rattle.host.specs.Founds.{chunkOut, fileOut}
 use Rattle.host.specs.Joins.{joinedOut}
 use Rattle.host.specs.Plans.{plannedOut}
 use Rattle.host.specs.Audits.{auditedOut}
+use Rattle.host.specs.BlobAnswers.{entryOut, putOut, scannedOut}
 use Rattle.host.specs.declared.ReaderState.{ReaderState}
 use Rattle.host.specs.declared.ReadState.{ReadState}
 use Rattle.host.specs.declared.StepState.{StepState}
@@ -35,6 +38,7 @@ use Rattle.host.specs.declared.WriterState.{WriterState}
 use Rattle.wrong_answers.specs.Wrong.{Wrong, _not_by_, Refuted, refuted}
 use Rattle.wrong_answers.specs.Told.{number, numbers, rowsTold}
 use Rattle.wrong_answers.specs.Inputs.{words, other, atEnd, atSegment, atFooter, tagShort, bare, writer, placeWith, offered, lentRow, zeros, goodSegment, empty, late, chunks, files, oneOfEach, threeSegments, claims, withXorbs}
+use Rattle.wrong_answers.specs.Blobs.{lower, three, file, room}
 
 -- a reader that waits for a segment, as it was given out
 abbrev waiting : ReaderState
@@ -129,8 +133,23 @@ wrongs =
     ∷ (auditedOut (auditOf tag late) .number not 0 by number)
     -- tag and shard exchanged
     ∷ (auditedOut (auditOf tag empty) .number not auditedOut (auditOf empty tag) .number by number)
+    -- ## `mdb_blob_entry_at`
+    -- the first entry, whichever is asked for
+    ∷ (entryOut (entryAt file 113) .digits not 14 by number)
+    -- a position past the end taken for the end of the entries
+    ∷ (entryOut (entryAt file 1000) .number not 0 by number)
+    -- ## `mdb_blob_put_entry`
+    -- digits and data exchanged
+    ∷ (putOut (putOf lower three 113) .number not putOut (putOf three lower 113) .number by number)
+    -- the buffer left as it was
+    ∷ (blobs.bufferOf lower three (room 113) not room 113 by numbers)
+    -- ## `mdb_blob_scan`
+    -- the first entry only
+    ∷ (scannedOut (scanOf file) .entries not 1 by number)
+    -- an empty file refused
+    ∷ (scannedOut (scanOf []) .number not 24 by number)
     ∷ []
 
 pub calls-refuted : Refuted wrongs
-unfolding stream.fresh stepOf stream.verdictOf callFor readWith readFor reads puts write.fresh wordsOf bytesOf answerOf writtenOf bufferOf write.verdictOf chunkFound chunkIn fileFound fileIn joinedAt joinedBytes joinFault answerFor joinOf join.bufferOf rowsFor leading segmentsIn planOf firstFalse auditIn placedIn blocksIn auditOf lastPlace foundIn scan run push fill verdictAt faultOf kindOf recordOf nextOf held leAt zerosAt spell spellHash spellWords spellFooter
+unfolding stream.fresh stepOf stream.verdictOf callFor readWith readFor reads puts write.fresh wordsOf bytesOf answerOf writtenOf bufferOf write.verdictOf chunkFound chunkIn fileFound fileIn joinedAt joinedBytes joinFault answerFor joinOf join.bufferOf rowsFor leading segmentsIn planOf firstFalse auditIn placedIn blocksIn auditOf areDigits spellEntry headOf wholeOf entryAt putFault putOf blobs.bufferOf scanFrom scanOf lastPlace foundIn scan run push fill verdictAt faultOf kindOf recordOf nextOf held leAt leNum zerosAt spell spellHash spellWords spellFooter
 calls-refuted = refuted wrongs refl

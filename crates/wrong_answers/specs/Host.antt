@@ -3,6 +3,7 @@ use mathlib.Core.Path.{refl}
 use mathlib.Core.List.{List, [], _∷_}
 use Rattle.words.specs.Record.{spellFooter, spellHash, spellWords}
 use Rattle.words.specs.Le.{spell}
+use Rattle.words.specs.Refusals.{refusedAt}
 use Rattle.rules.specs.Rules.{faultOf, kindOf, recordOf, nextOf, start}
 use Rattle.rules.specs.Held.{held}
 use Rattle.rules.specs.Verdicts.{refused, refusalAt, summaryOf}
@@ -25,11 +26,16 @@ use Rattle.join.specs.declared.Joined.the-variants as joined
 use Rattle.plan.specs.declared.Planned.the-variants as planned
 use Rattle.audit.specs.Audit.{falseAt}
 use Rattle.audit.specs.declared.Audited.the-variants as audited
+use Rattle.blobs.specs.Blobs.{partsAt}
+use Rattle.blobs.specs.declared.Entry.the-variants as entry
+use Rattle.blobs.specs.declared.Put.the-variants as put
+use Rattle.blobs.specs.declared.Scanned.the-variants as scanned
 use Rattle.host.specs.Boundary.{recordOut, offerIn, verdictOut, readerIn, readerOut, stepOut, readOut, writerIn, writerOut, writtenOut, writtenFor, bufferFor}
 use Rattle.host.specs.Founds.{chunkOut, fileOut}
 use Rattle.host.specs.Joins.{joinedOut}
 use Rattle.host.specs.Plans.{plannedOut}
 use Rattle.host.specs.Audits.{auditedOut}
+use Rattle.host.specs.BlobAnswers.{entryOut, putOut, scannedOut}
 use Rattle.wrong_answers.specs.Wrong.{Wrong, _not_by_, Refuted, refuted}
 use Rattle.wrong_answers.specs.Told.{number, numbers, dueTold, answerTold, fieldsTold}
 use Rattle.wrong_answers.specs.Inputs.{words, atEnd, atSegment, atFooter, bare, writer, placeWith, offered, zeros}
@@ -146,6 +152,30 @@ wrongs =
     ∷ (auditedOut (audited.Refused (falseAt 96)) .at not 0 by number)
     -- its number lost
     ∷ (auditedOut (audited.Refused (falseAt 96)) .number not 0 by number)
+    -- ## `entry_out`
+    -- the places of digits and data exchanged
+    ∷ (entryOut (entry.Found (partsAt 113 3)) .digits not 223 by number)
+    ∷ (entryOut (entry.Found (partsAt 113 3)) .«data» not 127 by number)
+    -- the length for the next position
+    ∷ (entryOut (entry.Found (partsAt 113 3)) .next not 3 by number)
+    -- a good entry with a position, as a refusal has it
+    ∷ (entryOut (entry.Found (partsAt 113 3)) .at not 113 by number)
+    -- a refusal's position for the next one; its position lost; its number lost
+    ∷ (entryOut (entry.Refused (refusedAt 113 25)) .next not 113 by number)
+    ∷ (entryOut (entry.Refused (refusedAt 113 25)) .at not 0 by number)
+    ∷ (entryOut (entry.Refused (refusedAt 113 25)) .number not 0 by number)
+    -- ## `put_out`
+    -- the number of bytes lost; a refusal's number lost
+    ∷ (putOut (put.Wrote 113) .wrote not 0 by number)
+    ∷ (putOut (put.Refused (refusedAt 0 27)) .number not 0 by number)
+    -- ## `scanned_out`
+    -- the counts exchanged
+    ∷ (scannedOut (scanned.Counted (record { entries = 2; bytes = 3 })) .entries not 3 by number)
+    ∷ (scannedOut (scanned.Counted (record { entries = 2; bytes = 3 })) .bytes not 2 by number)
+    -- a refusal's position for a count, lost; its number lost
+    ∷ (scannedOut (scanned.Refused (refusedAt 113 24)) .entries not 113 by number)
+    ∷ (scannedOut (scanned.Refused (refusedAt 113 24)) .at not 0 by number)
+    ∷ (scannedOut (scanned.Refused (refusedAt 113 24)) .number not 0 by number)
     ∷ []
 
 pub host-refuted : Refuted wrongs

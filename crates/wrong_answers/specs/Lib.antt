@@ -10,6 +10,7 @@ pub mod Finder
 pub mod Join
 pub mod Plan
 pub mod Audit
+pub mod Blobs
 pub mod Host
 pub mod Calls
 pub mod Paper

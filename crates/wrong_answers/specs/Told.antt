@@ -19,11 +19,17 @@ use Rattle.plan.specs.declared.Row.{Row}
 use Rattle.plan.specs.declared.Planned.{Planned}
 use Rattle.audit.specs.Audit.{PlacedSegment}
 use Rattle.audit.specs.declared.Audited.{Audited}
+use Rattle.blobs.specs.declared.Head.{Head}
+use Rattle.blobs.specs.declared.Head.the-variants as head
+use Rattle.blobs.specs.declared.Entry.{Entry}
+use Rattle.blobs.specs.declared.Put.{Put}
+use Rattle.blobs.specs.declared.Scanned.{Scanned}
 use Rattle.host.specs.Boundary.{mark, dueOut, offerBy, saidOut, refusalIn, wroteOut, refusalOf}
 use Rattle.host.specs.Founds.{chunkOut, fileOut}
 use Rattle.host.specs.Joins.{joinedOut}
 use Rattle.host.specs.Plans.{plannedOut}
 use Rattle.host.specs.Audits.{auditedOut}
+use Rattle.host.specs.BlobAnswers.{entryOut, putOut, scannedOut}
 
 abbrev pub number : ℕ → List ℕ
 number n = n ∷ []
@@ -91,3 +97,16 @@ blocksTold xorbs = joined (λ x. x .hash ++ joined (λ c. c .bytes ∷ []) (x .c
 abbrev pub blockTold : Option XorbBlock → List ℕ
 blockTold none = []
 blockTold (some x) = blocksTold (x ∷ [])
+
+abbrev pub headTold : Head → List ℕ
+headTold (head.Data n) = 0 ∷ n ∷ []
+headTold (head.Fault number) = 1 ∷ number ∷ []
+
+abbrev pub entryTold : Entry → List ℕ
+entryTold e = entryOut e .digits ∷ entryOut e .«data» ∷ entryOut e .length ∷ entryOut e .next ∷ entryOut e .at ∷ entryOut e .number ∷ []
+
+abbrev pub putTold : Put → List ℕ
+putTold p = putOut p .wrote ∷ putOut p .at ∷ putOut p .number ∷ []
+
+abbrev pub scannedTold : Scanned → List ℕ
+scannedTold s = scannedOut s .entries ∷ scannedOut s .bytes ∷ scannedOut s .at ∷ scannedOut s .number ∷ []
