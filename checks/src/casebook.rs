@@ -1,16 +1,20 @@
 //! The form of the two files of a casebook: cases with the lengths of their
-//! pieces, two shards to be joined with a buffer, a stretch to be planned and a
-//! shard to be audited, in; all that is made of each out.
+//! pieces, two shards to be joined with a buffer, a stretch to be planned, a
+//! shard to be audited, a blob file with a position, and an entry to be written
+//! with a buffer, in; all that is made of each out.
 
 use std::fmt::Display;
 
 use crate::audit::{audit, Audited};
+use crate::blobfiles::{self, BlobFile};
+use crate::blobs::{self, entry_at, put_entry, scan, Tally};
 use crate::cases::{random_cut_case, Case};
 use crate::draw::{Draw, ROOMS};
 use crate::generate::{Rng, LONGEST};
 use crate::join::join;
 use crate::naming::Naming;
 use crate::plan::{plan, Row};
+use crate::puts::Put;
 use crate::reader::{
     find_chunk, find_file, hash_at, judge, Answer, ChunkIndex, Fields, Hash, Kind, Reader, Record,
     Refusal, Verdict, ALL_ONES,
@@ -24,18 +28,18 @@ pub const CASES: u64 = 40;
 /// Their seed, which brings every number of a reader.
 pub const SEED: u64 = 2_767;
 
-/// The longest shard that the program reads.
+/// The longest shard that the program reads, and the longest blob file.
 const SHARD_MOST: usize = 8_192;
 
-/// It reads every shard of a stretch, and every one to be audited.
-const _: () = assert!(LONGEST <= SHARD_MOST);
+/// It reads every shard of a stretch, every one to be audited, and every file.
+const _: () = assert!(LONGEST <= SHARD_MOST && blobfiles::LONGEST <= SHARD_MOST);
 
 /// The rows of the program's table; a stretch is lent no more.
 const ROWS: usize = 8;
 
 /// A case, and the lengths of the pieces that it is read in; two shards to be
 /// joined, and the buffer that is lent for it; a stretch to be planned; a shard
-/// to be audited.
+/// to be audited; a blob file, and a position in it; an entry to be written.
 #[derive(Clone, Debug)]
 pub struct Entry {
     /// The case.
@@ -51,6 +55,12 @@ pub struct Entry {
     pub stretch: Stretch,
     /// The shard to be audited.
     pub naming: Naming,
+    /// The blob file.
+    pub file: BlobFile,
+    /// The position.
+    pub at: u64,
+    /// The entry to be written, and the buffer that is lent for it.
+    pub put: Put,
 }
 
 impl Entry {
@@ -64,11 +74,14 @@ impl Entry {
         let pieces = (0..count).map(|_| rng.below(longest + 1) as u8).collect();
         let pair = Draw::short_pair(rng, number, SHARD_MOST);
         let room = rng.pick(&ROOMS).bytes(rng, &pair);
-        let buffer = (0..room).map(|_| rng.word() as u8).collect();
+        let buffer = rng.bytes(room);
         let turn = rng.word();
         let stretch = Stretch::random(rng, turn);
         let turn = rng.word();
         let naming = Naming::random(rng, turn);
+        let file = BlobFile::random(rng, number);
+        let at = file.position(rng);
+        let put = Put::random(rng, number);
         Entry {
             case,
             pieces,
@@ -76,6 +89,9 @@ impl Entry {
             buffer,
             stretch,
             naming,
+            file,
+            at,
+            put,
         }
     }
 
@@ -83,19 +99,23 @@ impl Entry {
     /// of a case the tag and the first shard, and the second shard and the
     /// buffer, each behind its length; then again in the form of a case the
     /// tag and the shard of the stretch, and what is asked of it; then once more
-    /// the tag and the shard to be audited.
+    /// the tag and the shard to be audited; then the blob file and the position,
+    /// in the form of a case the digits and the data, and the buffer.
     pub fn encode(&self) -> Vec<u8> {
         let mut bytes = encode(&self.case.tag, &self.case.shard);
         bytes.push(self.pieces.len() as u8);
         bytes.extend(&self.pieces);
         bytes.extend(encode(&self.pair.tag, &self.pair.shards[0]));
-        for part in [&self.pair.shards[1], &self.buffer] {
-            bytes.extend((part.len() as u32).to_le_bytes());
-            bytes.extend(part);
-        }
+        bytes.extend(behind_length(&self.pair.shards[1]));
+        bytes.extend(behind_length(&self.buffer));
         bytes.extend(encode(&self.stretch.known.tag, &self.stretch.known.shard));
         bytes.extend(self.asked());
         bytes.extend(encode(&self.naming.known.tag, &self.naming.known.shard));
+        bytes.extend(behind_length(&self.file.bytes));
+        bytes.push(8);
+        bytes.extend(self.at.to_le_bytes());
+        bytes.extend(encode(&self.put.digits, &self.put.data));
+        bytes.extend(behind_length(&self.put.buffer));
         bytes
     }
 
@@ -124,6 +144,9 @@ impl Entry {
         lines.push(self.joined_line());
         lines.extend(self.planned_lines());
         lines.push(self.audited_line());
+        lines.push(self.scanned_line());
+        lines.push(self.entry_line());
+        lines.push(self.put_line());
         (lines.join("\n") + "\n", verdict)
     }
 
@@ -141,9 +164,7 @@ impl Entry {
     fn joined_line(&self) -> String {
         let mut buffer = self.buffer.clone();
         let said = answer(self.joined(&mut buffer));
-        let add = |sum: u64, &byte: &u8| (sum * 257 + u64::from(byte)) % 4_294_967_291;
-        let sum = buffer.iter().fold(0, add);
-        format!("joined {said}, the buffer's sum {sum}")
+        format!("joined {said}, the buffer's sum {}", sum(&buffer))
     }
 
     /// What planning answers; of the table no more rows are lent than it has.
@@ -180,6 +201,46 @@ impl Entry {
         format!("audited {}", answer(self.audited().map(counts)))
     }
 
+    /// What a scan of the blob file answers.
+    pub fn scanned(&self) -> Result<Tally, Refusal> {
+        scan(&self.file.bytes)
+    }
+
+    /// That: the entries, and the sum of their data lengths.
+    fn scanned_line(&self) -> String {
+        let counts = |tally: Tally| format!("{} {}", tally.entries, tally.bytes);
+        format!("scanned {}", answer(self.scanned().map(counts)))
+    }
+
+    /// The entry of the blob file at the position.
+    pub fn entry(&self) -> Result<blobs::Entry<'_>, Refusal> {
+        entry_at(&self.file.bytes, self.at)
+    }
+
+    /// That: where the digits and the data stand, the data's length, and the
+    /// next position.
+    fn entry_line(&self) -> String {
+        let file = self.file.bytes.as_ptr() as usize;
+        let place = |part: &[u8]| part.as_ptr() as usize - file;
+        let said = self.entry().map(|entry| {
+            let (digits, data) = (place(entry.digits), place(entry.data));
+            format!("{digits} {data} {} {}", entry.data.len(), entry.next)
+        });
+        format!("entry {}", answer(said))
+    }
+
+    /// What writing the entry answers.
+    pub fn wrote(&self, buffer: &mut [u8]) -> Result<usize, Refusal> {
+        put_entry(&self.put.digits, &self.put.data, buffer)
+    }
+
+    /// That, and a sum that tells where each byte of the buffer stands after it.
+    fn put_line(&self) -> String {
+        let mut buffer = self.put.buffer.clone();
+        let said = answer(self.wrote(&mut buffer));
+        format!("put {said}, the buffer's sum {}", sum(&buffer))
+    }
+
     /// The records and the verdict of a reader on these pieces.
     fn read(&self) -> (Vec<Record>, Verdict) {
         let mut reader = Reader::new(&self.case.tag);
@@ -213,8 +274,20 @@ fn offer(reader: &mut Reader, mut piece: &[u8], records: &mut Vec<Record>) {
     }
 }
 
-/// The bytes of a join, the rows of a plan, the counts of an audit, or a
-/// refusal.
+/// A part of the input file behind four bytes that tell its length.
+fn behind_length(part: &[u8]) -> Vec<u8> {
+    let length = (part.len() as u32).to_le_bytes();
+    [&length[..], part].concat()
+}
+
+/// A sum that tells where each byte stands.
+fn sum(buffer: &[u8]) -> u64 {
+    let add = |sum: u64, &byte: &u8| (sum * 257 + u64::from(byte)) % 4_294_967_291;
+    buffer.iter().fold(0, add)
+}
+
+/// The bytes of a join or of an entry, the rows of a plan, the counts of an
+/// audit or a scan, the places of an entry, or a refusal.
 fn answer(answer: Result<impl Display, Refusal>) -> String {
     match answer {
         Ok(counts) => format!("ok {counts}"),

@@ -206,7 +206,7 @@ pub fn other_tag(rng: &mut Rng) -> Case {
 
 /// A good shard under another tag of 32 bytes, the same in its header.
 pub fn own_tag(rng: &mut Rng) -> Case {
-    let tag: Vec<u8> = (0..32).map(|_| rng.word() as u8).collect();
+    let tag = rng.bytes(32);
     let plan = ShardPlan::random(rng, Size::TINY);
     let mut case = Case::new(
         "own tag",

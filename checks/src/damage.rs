@@ -85,7 +85,7 @@ pub fn faults(kind: Kind) -> &'static [u8] {
     }
 }
 
-/// Sets a field of 4 or 8 bytes, cutting the value to its width.
+/// Sets a field of at most 8 bytes, cutting the value to its width.
 pub fn set(bytes: &mut [u8], (at, width): (usize, usize), value: u64) {
     bytes[at..at + width].copy_from_slice(&value.to_le_bytes()[..width]);
 }

@@ -61,6 +61,11 @@ impl Rng {
         self.pick(&[any, any, any >> 32, 0, 1, 1 << 31, 1 << 32, u64::MAX])
     }
 
+    /// So many bytes.
+    pub fn bytes(&mut self, count: usize) -> Vec<u8> {
+        (0..count).map(|_| self.word() as u8).collect()
+    }
+
     /// Any hash, sometimes all ones or all zeros.
     pub fn hash(&mut self) -> Hash {
         match self.below(12) {

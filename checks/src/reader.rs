@@ -728,11 +728,13 @@ fn further(flags: u32, entries: u32) -> u64 {
     u64::from(entries) * (1 + verified) + metadata
 }
 
-fn blank(bytes: &[u8]) -> bool {
+/// Whether all bytes are zero.
+pub(crate) fn blank(bytes: &[u8]) -> bool {
     bytes.iter().all(|&byte| byte == 0)
 }
 
-fn refuse_if(fault: bool, number: u8) -> Result<(), u8> {
+/// The number of a fault, if there is one.
+pub(crate) fn refuse_if(fault: bool, number: u8) -> Result<(), u8> {
     if fault {
         Err(number)
     } else {

@@ -2,6 +2,7 @@
 
 use checks::audit::Audited;
 use checks::casebook::{blanks, Entry, CASES, SEED};
+use checks::reader::Refusal;
 use std::fs;
 use std::path::Path;
 
@@ -10,6 +11,16 @@ fn stored() -> (Vec<u8>, String) {
     let input = fs::read(folder.join("stdin")).expect("the file stdin");
     let output = fs::read_to_string(folder.join("stdout")).expect("the file stdout");
     (input, output)
+}
+
+/// The numbers that these were refused with, 0 if one was not.
+fn numbers<T>(answers: impl Iterator<Item = Result<T, Refusal>>) -> Vec<u8> {
+    let mut seen: Vec<u8> = answers
+        .map(|answer| answer.err().map_or(0, |refusal| refusal.number))
+        .collect();
+    seen.sort_unstable();
+    seen.dedup();
+    seen
 }
 
 #[test]
@@ -23,12 +34,7 @@ fn stored_files_are_current() {
 #[test]
 fn every_number_is_seen() {
     let verdicts = (0..CASES).map(|case| Entry::random(SEED, case).lines().1);
-    let mut seen: Vec<u8> = verdicts
-        .map(|verdict| verdict.err().map_or(0, |refusal| refusal.number))
-        .collect();
-    seen.sort_unstable();
-    seen.dedup();
-    assert_eq!(seen, (0..=14).collect::<Vec<u8>>());
+    assert_eq!(numbers(verdicts), (0..=14).collect::<Vec<u8>>());
 }
 
 /// Joins that are accepted and refused by either shard, and each number of a
@@ -40,11 +46,7 @@ fn every_join_is_seen() {
         let mut buffer = std::mem::take(&mut entry.buffer);
         entry.joined(&mut buffer)
     });
-    let mut seen: Vec<u8> = joins
-        .map(|joined| joined.err().map_or(0, |refusal| refusal.number))
-        .collect();
-    seen.sort_unstable();
-    seen.dedup();
+    let seen = numbers(joins);
     for number in [0, 9, 15, 30] {
         assert!(seen.contains(&number), "{number} is not among {seen:?}");
     }
@@ -75,6 +77,22 @@ fn every_audit_is_seen() {
     assert!(audits.contains(&Err(22)), "22 is not in {audits:?}");
     assert!(audits.iter().any(|audited| audited.is_ok_and(both)));
     assert!(audits.iter().any(|audited| audited.is_err_and(|n| n <= 14)));
+}
+
+/// Blob files and entries of them that are good, and each of their numbers; and
+/// each number of an entry to be written.
+#[test]
+fn every_blob_is_seen() {
+    let entries: Vec<Entry> = (0..CASES).map(|case| Entry::random(SEED, case)).collect();
+    let all = [0, 24, 25, 26, 27, 28, 29];
+    assert_eq!(numbers(entries.iter().map(Entry::scanned)), all);
+    assert_eq!(numbers(entries.iter().map(Entry::entry)), all);
+    let wrote = entries
+        .iter()
+        .map(|one| one.wrote(&mut one.put.buffer.clone()));
+    assert_eq!(numbers(wrote), [0, 15, 27]);
+    let mut tallies = entries.iter().flat_map(Entry::scanned);
+    assert!(tallies.any(|tally| tally.entries > 1 && tally.bytes > 0));
 }
 
 /// However a case is cut, its lines are the same.

@@ -1,7 +1,7 @@
 //! Joining: both joins on the same shards, and what the request says of every result.
 
 use crate::sights::{Sights, SOME};
-use crate::{alike, hex, same, shown, Checked};
+use crate::{alike, hex, pattern, same, same_bytes, shown, Checked};
 use checks::draw::{self, Draw, Room, MOST, ROOMS, TURNS};
 use checks::generate::{usual_tag, Rng};
 use checks::join::join;
@@ -133,26 +133,12 @@ fn product_list(draw: &Draw) -> Joined {
     melagbosun::join(&draw.tag, &shards).map_err(same::refusal)
 }
 
-/// What a buffer holds before a join.
-fn pattern(length: usize) -> Vec<u8> {
-    (0..=250).cycle().take(length).collect()
-}
-
 /// Two shards joined with room enough.
 fn joined(join: Join, tag: &[u8], first: &[u8], second: &[u8]) -> Joined {
     let mut out = pattern(first.len() + second.len());
     let length = join(tag, first, second, &mut out)?;
     out.truncate(length);
     Ok(out)
-}
-
-/// An error that tells the first byte that is not the same.
-fn same_bytes(what: &str, product: &[u8], wanted: &[u8]) -> Checked {
-    let mut both = product.iter().zip(wanted);
-    match both.position(|(one, other)| one != other) {
-        Some(at) => alike(&format!("{what}, byte {at}"), product[at], wanted[at]),
-        None => alike(&format!("{what}, length"), product.len(), wanted.len()),
-    }
 }
 
 fn same_joined(what: &str, product: &Joined, wanted: &Joined) -> Checked {

@@ -1,9 +1,11 @@
 //! `compare N SEED`: N generated inputs, given to the independent reader and to the proved library, shards joined by both,
-//! stretches of files planned by both, and segments audited by both. Nothing may differ.
+//! stretches of files planned by both, segments audited by both, and blob files read and written by both. Nothing may differ.
 
 mod audit;
+mod blobs;
 mod join;
 mod plan;
+mod puts;
 mod read;
 mod same;
 mod sights;
@@ -12,7 +14,7 @@ mod write;
 
 use checks::cases::{random_case, Case};
 use checks::generate::Rng;
-use sights::{Sights, AUDITS, JOINS, PLANS};
+use sights::{Sights, AUDITS, BLOBS, JOINS, PLANS, PUTS};
 use std::env;
 use std::process::ExitCode;
 
@@ -39,6 +41,20 @@ pub fn alike<T: PartialEq + std::fmt::Debug>(what: &str, product: T, wanted: T) 
     Err(format!(
         "{what}\n  product:     {product:?}\n  independent: {wanted:?}"
     ))
+}
+
+/// An error that tells the first byte that is not the same.
+pub fn same_bytes(what: &str, product: &[u8], wanted: &[u8]) -> Checked {
+    let mut both = product.iter().zip(wanted);
+    match both.position(|(one, other)| one != other) {
+        Some(at) => alike(&format!("{what}, byte {at}"), product[at], wanted[at]),
+        None => alike(&format!("{what}, length"), product.len(), wanted.len()),
+    }
+}
+
+/// What a buffer holds before something is written to it.
+pub fn pattern(length: usize) -> Vec<u8> {
+    (0..=250).cycle().take(length).collect()
 }
 
 /// A case, now and then cut at a random byte.
@@ -111,12 +127,16 @@ fn compare(count: u64, seed: u64) -> Checked {
     let mut joins = Sights::new("joins", JOINS);
     let mut plans = Sights::new("plans", PLANS);
     let mut audits = Sights::new("audits", AUDITS);
+    let mut blobs = Sights::new("blobs", BLOBS);
+    let mut puts = Sights::new("puts", PUTS);
     inputs(count, seed, &mut seen)?;
     join::compare(count, seed, &mut joins)?;
     plan::compare(count, seed, &mut plans)?;
     audit::compare(count, seed, &mut audits)?;
+    blobs::compare(count, seed, &mut blobs)?;
+    puts::compare(count, seed, &mut puts)?;
     report(&seen);
-    for sights in [&joins, &plans, &audits] {
+    for sights in [&joins, &plans, &audits, &blobs, &puts] {
         sights.report();
         sights.enough(count)?;
     }
@@ -124,6 +144,11 @@ fn compare(count: u64, seed: u64) -> Checked {
     println!("{pairs} pairs, {triples} triples and {lists} lists joined, 0 differences");
     println!("{} plans, 0 differences", plans.times("plans"));
     println!("{} audits, 0 differences", audits.times("audits"));
+    let (files, puts) = (
+        blobs.times("blob files"),
+        puts.times("entries to be written"),
+    );
+    println!("{files} blob files and {puts} entries to be written, 0 differences");
     println!("{count} inputs, 0 differences");
     Ok(())
 }

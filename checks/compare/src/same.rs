@@ -1,6 +1,7 @@
 //! The product's answers in the words of the independent reader.
 
 use checks::audit::Audited;
+use checks::blobs::{Entry, Tally};
 use checks::plan::Row;
 use checks::reader as own;
 use melagbosun as product;
@@ -164,5 +165,20 @@ pub fn audited(from: product::Audited) -> Audited {
     Audited {
         listed: from.listed,
         unlisted: from.unlisted,
+    }
+}
+
+pub fn entry(from: product::blobs::Entry<'_>) -> Entry<'_> {
+    Entry {
+        digits: from.digits,
+        data: from.data,
+        next: from.next.0,
+    }
+}
+
+pub fn tally(from: product::blobs::Tally) -> Tally {
+    Tally {
+        entries: from.entries,
+        bytes: from.bytes,
     }
 }

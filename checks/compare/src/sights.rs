@@ -1,4 +1,4 @@
-//! What was seen of joins and of plans, and what has to be.
+//! What was seen of joins, of plans, of audits and of blob files, and what has to be.
 
 use crate::Checked;
 
@@ -130,6 +130,92 @@ pub const AUDITS: &[Sight] = &[
     ("refused by the shard", 350),
     ("false all the same", 150),
     ("the longest shard", 5),
+];
+
+/// Every sight of blob files. Down to what was longer they are of scans, good ones and refused ones, then of positions where an
+/// entry was found, and of those where none was; at the end, of every value of every byte of one entry.
+pub const BLOBS: &[Sight] = &[
+    ("blob files", 10_000),
+    ("scans known beforehand", 9_000),
+    ("files good", 1_500),
+    ("no byte at all", 250),
+    ("one entry", 300),
+    ("several entries", 600),
+    ("a larger file", 3),
+    ("another length that fits", 300),
+    ("files written again", 1_500),
+    ("scan refused 24", 900),
+    ("scan refused 25", 600),
+    ("scan refused 26", 400),
+    ("scan refused 27", 700),
+    ("scan refused 28", 400),
+    ("scan refused 29", 1_000),
+    ("at the first entry", 2_500),
+    ("at a later entry", 2_500),
+    ("two faults in an entry", 1_000),
+    ("faults in two entries", 500),
+    ("cut and refused", 400),
+    ("longer and refused", 500),
+    ("positions", 150_000),
+    ("answers known beforehand", 145_000),
+    ("entries found", 35_000),
+    ("of lower case", 6_000),
+    ("of upper case", 6_000),
+    ("of both cases", 12_000),
+    ("no data", 3_000),
+    ("256 bytes or more", 1_500),
+    ("up to the end", 3_000),
+    ("110 bytes left", 1_000),
+    ("an entry in data", 3_500),
+    ("entries written again", 60_000),
+    ("entry refused 24", 80_000),
+    ("entry refused 25", 15_000),
+    ("entry refused 26", 500),
+    ("entry refused 27", 800),
+    ("entry refused 28", 500),
+    ("entry refused 29", 1_200),
+    ("24, 109 bytes left", 6_000),
+    ("24 at the end", 10_000),
+    ("24 just past the end", 10_000),
+    ("24 at u64::MAX", 10_000),
+    ("24, 110 more wrap", 15_000),
+    ("24 but for 32 bits", 6_000),
+    ("25 inside of an entry", 15_000),
+    ("27 beside the digits", 200),
+    ("27, a digit but for 128", 200),
+    ("29 by one byte", 75),
+    ("29, about 2^63", 75),
+    ("29, about 2^64", 200),
+    ("29, u64::MAX", 25),
+    ("29, the end wraps", 175),
+    ("29 but for 32 bits", 175),
+    ("bytes of 110 damaged", 110),
+    ("values of a byte", 28_050),
+    ("values refused", 26_000),
+];
+
+/// Every sight of entries to be written; at the end, of every character in every place of the digits.
+pub const PUTS: &[Sight] = &[
+    ("entries to be written", 10_000),
+    ("entries written", 1_800),
+    ("no data", 400),
+    ("exact room", 1_000),
+    ("room to spare", 400),
+    ("refused 27", 3_000),
+    ("27, no digits", 50),
+    ("27, 63 digits", 300),
+    ("27, 65 digits", 300),
+    ("27, 128 digits", 50),
+    ("27 by a character", 1_000),
+    ("27 without room", 1_400),
+    ("refused 15", 2_500),
+    ("15 by one byte", 600),
+    ("no room", 1_000),
+    ("109 bytes of room", 1_000),
+    ("110 bytes of room", 1_000),
+    ("places of 64 spoilt", 64),
+    ("characters in a place", 16_384),
+    ("characters refused", 14_976),
 ];
 
 /// So many inputs bring all of that, fewer the same part of it.

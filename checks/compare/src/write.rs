@@ -200,7 +200,7 @@ fn due_with(kind: Kind) -> &'static [Kind] {
 
 /// An offer of this kind with any fields.
 fn some_offer(rng: &mut Rng, kind: Kind) -> Offer {
-    let bytes: Vec<u8> = (0..kind.size()).map(|_| rng.word() as u8).collect();
+    let bytes = rng.bytes(kind.size());
     offer_of(kind, &bytes)
 }
 

@@ -1,8 +1,8 @@
 // A shard of a case, audited.
 use audit::Audited;
 use audit::audit;
-use shardline::text::refused;
-use shardline::text::say;
+use text::refused;
+use text::say;
 use trial::cases::SHARD_MOST;
 use trial::cases::TAG_MOST;
 use trial::cases::broken_said;

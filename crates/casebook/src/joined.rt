@@ -1,8 +1,8 @@
 // Two shards of a case, joined into a buffer that it brings with it.
 use join::Joined;
 use join::join;
-use shardline::text::refused;
-use shardline::text::say;
+use text::refused;
+use text::say;
 use trial::cases::SHARD_MOST;
 use trial::cases::TAG_MOST;
 use trial::cases::broken_said;
@@ -11,7 +11,7 @@ use trial::cases::short_part;
 use trial::told::named;
 
 // The bytes that a buffer may have: as many as two shards, and more.
-const BUFFER_MOST: usize = 20000;
+pub const BUFFER_MOST: usize = 20000;
 
 // A sum with one byte more.
 fn with_byte(sum: u64, x: u8) -> u64 {
@@ -19,7 +19,7 @@ fn with_byte(sum: u64, x: u8) -> u64 {
 }
 
 // A sum that tells where each byte stands.
-fn sum_of(bytes: &[u8]) -> u64 {
+pub fn sum_of(bytes: &[u8]) -> u64 {
     let mut sum = 0;
     let mut i = 0;
     while i < bytes.len() {

@@ -3,12 +3,14 @@
 // Where K is 0 it is read in one piece. A length 0 is an empty piece and then one of a byte. Then come in the same way a tag, a shard,
 // another one and a buffer, with which these two are joined; then a tag and a shard of which a stretch is planned, one byte 24, and in
 // 24 bytes (little-endian) the file's number in four, the stretch's first byte and the byte after its last in eight each, and in four
-// how many rows of the table are lent, 8 at the most; then a tag and a shard that is audited.
+// how many rows of the table are lent, 8 at the most; then a tag and a shard that is audited; then a blob file, one byte 8 and a position
+// in it in eight; then the digits of a hash as a tag comes, data and a buffer, into which an entry of these is written.
 use aloud::Heard;
 use audited::next_audited;
+use blob_parts::next_blobs;
 use joined::next_joined;
 use planned::next_planned;
-use shardline::text::say;
+use text::say;
 use trial::cases::SHARD_MOST;
 use trial::cases::TAG_MOST;
 use trial::cases::broken_said;
@@ -20,6 +22,7 @@ use whole::written_told;
 
 mod aloud;
 mod audited;
+mod blob_parts;
 mod joined;
 mod planned;
 mod whole;
@@ -65,7 +68,7 @@ fn main() {
     let mut turns = u64::MAX;
     let mut more = true;
     while turns > 0 && more {
-        more = next_told() && next_joined() && next_planned() && next_audited();
+        more = next_told() && next_joined() && next_planned() && next_audited() && next_blobs();
         turns -= 1;
     }
 }

@@ -20,6 +20,7 @@ main-spec =
     (λ c. λ κs. tt)
     (λ c. λ κs. tt)
     (λ c. λ κs. tt)
+    (λ c. λ κs. tt)
     (λ c. omega arith)
     (λ c. omega arith)
     (λ c. tt)
