@@ -4,13 +4,14 @@ use crate::{ffi, Position};
 use std::error::Error;
 use std::fmt;
 
-/// Why a shard, a tag, an offer, a join, a plan or an audit was refused, and where.
+/// Why a shard, a tag, an offer, a join, a plan, an audit or an entry of a blob file was refused, and where.
 #[derive(Clone, Copy, Debug, PartialEq, Eq, Hash)]
 pub struct Refusal {
-    /// The number, 1 to 18, 22 or 30.
+    /// The number, 1 to 18, 22 or 24 to 30.
     pub number: u32,
-    /// Where the record starts that is at fault or missing; of 14 the first byte too many, of 15 and 16 where the writer
-    /// stands. Of accepted shards that can't be joined, or planned from as asked, it is 0.
+    /// Where the record or the entry starts that is at fault or missing; of 14 the first byte too many, of 15 and 16 where the
+    /// writer stands. Of accepted shards that can't be joined, or planned from as asked, and of an entry that can't be written, it
+    /// is 0.
     pub position: Position,
 }
 
@@ -32,11 +33,17 @@ impl Refusal {
             12 => "the footer's version is not 1",
             13 => "an offset in the footer is wrong",
             14 => "something follows the end of the shard",
-            15 => "the buffer is shorter than the record, or than the joined shard, or the table has fewer rows than the plan",
+            15 => "the buffer is shorter than the record, the joined shard or the entry, or the table has fewer rows than the plan",
             16 => "this kind of record is not due now",
             17 => "the shard has no file of that number",
             18 => "the range is empty or runs backwards, or goes past the end of the file",
             22 => "a segment does not agree with the chunks of the xorb that it names, which the shard lists",
+            24 => "fewer bytes are left than the 110 that an entry has before its data",
+            25 => "the entry does not begin with MSHB",
+            26 => "the entry's version is not 1",
+            27 => "the entry's hash is not 64 hex digits",
+            28 => "a reserved byte of the entry is not 0",
+            29 => "the entry's data go past the end of the buffer",
             30 => "a shard to be joined has a footer",
             _ => "the refusal has no known number",
         }

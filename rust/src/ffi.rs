@@ -168,6 +168,34 @@ pub struct Audited {
     pub number: u32,
 }
 
+#[derive(Clone, Copy, Debug)]
+#[repr(C)]
+pub struct BlobEntry {
+    pub digits: u64,
+    pub data: u64,
+    pub length: u64,
+    pub next: u64,
+    pub at: u64,
+    pub number: u32,
+}
+
+#[derive(Clone, Copy, Debug)]
+#[repr(C)]
+pub struct BlobPut {
+    pub wrote: u64,
+    pub at: u64,
+    pub number: u32,
+}
+
+#[derive(Clone, Copy, Debug)]
+#[repr(C)]
+pub struct BlobScanned {
+    pub entries: u64,
+    pub bytes: u64,
+    pub at: u64,
+    pub number: u32,
+}
+
 /// What a call of the reader says: nothing yet, a record, a refusal. A search: absent, found, refused.
 pub const NOTHING: u32 = 0;
 pub const FOUND: u32 = 1;
@@ -237,6 +265,16 @@ extern "C" {
         table_length: usize,
     ) -> Planned;
     fn mdb_audit(tag: *const u8, tag_length: usize, shard: *const u8, length: usize) -> Audited;
+    fn mdb_blob_entry_at(buffer: *const u8, length: usize, at: u64) -> BlobEntry;
+    fn mdb_blob_put_entry(
+        digits: *const u8,
+        digits_length: usize,
+        data: *const u8,
+        data_length: usize,
+        out: *mut u8,
+        out_length: usize,
+    ) -> BlobPut;
+    fn mdb_blob_scan(buffer: *const u8, length: usize) -> BlobScanned;
 }
 
 pub fn reader_new(tag: &[u8]) -> Reader {
@@ -375,6 +413,33 @@ pub fn audit(tag: &[u8], shard: &[u8]) -> Audited {
     unsafe { mdb_audit(tag.as_ptr(), tag.len(), shard.as_ptr(), shard.len()) }
 }
 
+#[inline]
+pub fn blob_entry_at(buffer: &[u8], at: u64) -> BlobEntry {
+    // SAFETY: the slice outlives the call, which only reads it; the pointer of an empty slice is not null.
+    unsafe { mdb_blob_entry_at(buffer.as_ptr(), buffer.len(), at) }
+}
+
+#[inline]
+pub fn blob_put_entry(digits: &[u8], data: &[u8], out: &mut [u8]) -> BlobPut {
+    // SAFETY: all three slices outlive the call, which only reads the first two and writes within the last; being `&mut`, that
+    // overlaps neither of them. The pointer of an empty slice is not null.
+    unsafe {
+        mdb_blob_put_entry(
+            digits.as_ptr(),
+            digits.len(),
+            data.as_ptr(),
+            data.len(),
+            out.as_mut_ptr(),
+            out.len(),
+        )
+    }
+}
+
+pub fn blob_scan(buffer: &[u8]) -> BlobScanned {
+    // SAFETY: the slice outlives the call, which only reads it; the pointer of an empty slice is not null.
+    unsafe { mdb_blob_scan(buffer.as_ptr(), buffer.len()) }
+}
+
 /// The sizes that the C declarations have.
 const _: () = {
     assert!(size_of::<Totals>() == 40);
@@ -395,4 +460,7 @@ const _: () = {
     assert!(size_of::<FetchRow>() == 48);
     assert!(size_of::<Planned>() == 24);
     assert!(size_of::<Audited>() == 32);
+    assert!(size_of::<BlobEntry>() == 48);
+    assert!(size_of::<BlobPut>() == 24);
+    assert!(size_of::<BlobScanned>() == 32);
 };

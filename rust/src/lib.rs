@@ -1,11 +1,12 @@
-//! Reads, writes, joins and audits shards, and plans what to fetch of their files, through a library that is proved to follow its
-//! written rules.
+//! Reads, writes, joins and audits shards, plans what to fetch of their files, and reads and writes the old blob files, through a
+//! library that is proved to follow its written rules.
 //!
 //! - [`Reader`] reads a shard in pieces, [`Writer`] writes one record by record.
 //! - [`judge`] answers for a whole shard in a buffer, [`find_chunk`] and [`find_file`] look for a hash in it.
 //! - [`join_into`] joins two shards into a lent buffer, [`join`] a list of them.
 //! - [`plan`] tells which pieces to fetch for a stretch of one file, [`plan_into`] fills a lent table with them.
 //! - [`audit`] holds the segments of a shard against the xorbs that it lists.
+//! - [`blobs`] has the old blob files: their entries read, written and counted.
 //!
 //! The proved part is the archive `libmelagbosun.a`, for x86-64 only; `./archive` at the top of the repository makes it.
 //! This crate adds types around it and no rules. Only [`join`] and [`plan`] allocate.
@@ -34,6 +35,7 @@
 #![deny(unsafe_code)]
 
 mod audit;
+pub mod blobs;
 mod error;
 mod ffi;
 mod find;

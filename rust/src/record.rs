@@ -3,7 +3,7 @@
 use crate::ffi;
 use std::fmt;
 
-/// A byte position in a shard.
+/// A byte position in a shard, or in a blob file.
 #[derive(Clone, Copy, Debug, Default, PartialEq, Eq, PartialOrd, Ord, Hash)]
 pub struct Position(pub u64);
 
