@@ -1,5 +1,6 @@
-//! The shards that are read, made by the proved writer.
+//! The shards and blob files that are read, made by the proved writers.
 
+use melagbosun::blobs::{put_entry, HEAD_SIZE};
 use melagbosun::{Audited, ChunkIndex, Hash, Offer, Writer};
 
 /// The tag of the shards.
@@ -225,4 +226,49 @@ pub fn halves() -> [Input; 3] {
         xorb("150,000 chunks", 150_000),
         segments("50,000 files", 50_000),
     ]
+}
+
+/// A blob file and the entries it was written from.
+pub struct BlobFile {
+    /// What it is.
+    pub name: &'static str,
+    /// The digits and the data of each entry.
+    pub parts: Vec<(Vec<u8>, Vec<u8>)>,
+    /// The bytes.
+    pub bytes: Vec<u8>,
+    /// How often it is gone over in one round.
+    pub times: usize,
+}
+
+impl BlobFile {
+    /// So many entries with so many bytes of data each.
+    fn new(name: &'static str, count: usize, size: usize, times: usize) -> Self {
+        let part = |hash: Hash| {
+            let data = <[u8; 32]>::from(hash).into_iter().cycle();
+            let digits = hash.to_string().into_bytes();
+            (digits, data.take(size).collect::<Vec<u8>>())
+        };
+        let parts: Vec<_> = Hashes(6).take(count).map(part).collect();
+        let mut bytes = vec![0; count * (HEAD_SIZE + size)];
+        let places = bytes.chunks_exact_mut(HEAD_SIZE + size);
+        for ((digits, data), place) in parts.iter().zip(places) {
+            put_entry(digits, data, place).expect("a good entry");
+        }
+        BlobFile {
+            name,
+            parts,
+            bytes,
+            times,
+        }
+    }
+}
+
+/// 100,000 entries with 64 bytes of data each.
+pub fn small_blobs() -> BlobFile {
+    BlobFile::new("100,000 entries of 64 bytes", 100_000, 64, 1)
+}
+
+/// 16 entries with 64 KiB of data each, gone over many times.
+pub fn large_blobs() -> BlobFile {
+    BlobFile::new("16 entries of 64 KiB", 16, 65_536, 50)
 }

@@ -1,9 +1,10 @@
-//! What is timed: the inputs, an ordinary reader, plan and audit, and the consumer of the records.
+//! What is timed: the inputs, an ordinary reader, plan and audit, ordinary blob files, and the consumer of the records.
 
 pub mod inputs;
 pub mod measured;
 pub mod ordinary;
 pub mod ordinary_audit;
+pub mod ordinary_blobs;
 pub mod ordinary_plan;
 
 use melagbosun::Record;

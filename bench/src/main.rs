@@ -2,6 +2,7 @@
 //! an instruction counter.
 
 mod auditing;
+mod blob_files;
 mod joining;
 mod planning;
 
@@ -167,6 +168,7 @@ fn table(rounds: usize) {
     joining::table(rounds);
     planning::table(rounds);
     auditing::table(rounds);
+    blob_files::tables(rounds);
 }
 
 fn count(key: &str, times: usize) -> Option<u64> {

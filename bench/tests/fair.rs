@@ -1,9 +1,10 @@
-//! The ordinary reader, plan and audits are right ones: the same records, verdicts, rows and counts as the proved, on generated
-//! inputs.
+//! The ordinary reader, plan, audits and blob files are right ones: the same records, verdicts, rows, counts, entries and bytes as
+//! the proved, on generated inputs.
 
-use bench::{fold, ordinary::Ordinary, ordinary_audit, ordinary_plan};
-use checks::{cases::random_case, generate::Rng, naming::Naming, stretch::Stretch};
-use melagbosun::{audit, judge, plan_into, FetchRow, FileNumber, Reader};
+use bench::{fold, ordinary::Ordinary, ordinary_audit, ordinary_blobs, ordinary_plan};
+use checks::{blobfiles::BlobFile, cases::random_case, generate::Rng, naming::Naming};
+use checks::{puts::Put, stretch::Stretch};
+use melagbosun::{audit, blobs, judge, plan_into, FetchRow, FileNumber, Position, Reader};
 
 #[test]
 fn the_same_records_and_verdicts() {
@@ -67,4 +68,44 @@ fn the_same_counts() {
     }
     let least = counted.min(refused);
     assert!(least > 4_000, "{counted} were counted, {refused} refused");
+}
+
+#[test]
+fn the_same_entries() {
+    let mut rng = Rng::new(3);
+    let (mut counted, mut refused) = (0, 0);
+    for number in 0..20_000 {
+        let file = BlobFile::random(&mut rng, number);
+        let wanted = blobs::scan(&file.bytes);
+        assert_eq!(ordinary_blobs::scan(&file.bytes), wanted);
+        for at in file.positions(&mut rng) {
+            let at = Position(at);
+            let entry = blobs::entry_at(&file.bytes, at);
+            assert_eq!(ordinary_blobs::entry_at(&file.bytes, at), entry);
+        }
+        counted += usize::from(wanted.is_ok());
+        refused += usize::from(wanted.is_err());
+    }
+    let least = counted.min(refused);
+    assert!(least > 2_000, "{counted} were counted, {refused} refused");
+}
+
+#[test]
+fn the_same_bytes() {
+    let mut rng = Rng::new(3);
+    let mut written = 0;
+    for number in 0..20_000 {
+        let Put {
+            digits,
+            data,
+            buffer,
+            ..
+        } = Put::random(&mut rng, number);
+        let [mut one, mut two] = [(); 2].map(|()| buffer.clone());
+        let size = ordinary_blobs::put_entry(&digits, &data, &mut one);
+        let wanted = blobs::put_entry(&digits, &data, &mut two);
+        assert_eq!((size, one), (wanted, two));
+        written += usize::from(size.is_ok());
+    }
+    assert!(written > 4_000, "only {written} were written");
 }
