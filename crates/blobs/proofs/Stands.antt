@@ -9,7 +9,7 @@ use Rattle.words.specs.Le.{Bytes, leNum, spell}
 use Rattle.words.proofs.Numbers.{length-spell, num-spell, at-num, at-lt, spell-at, take-bytes, part-in}
 use Rattle.words.proofs.Zeros.{zeros-part, zeros-from}
 use Rattle.blobs.specs.declared.Head.the-variants as head
-use Rattle.blobs.specs.Blobs.{Blob, Sound, magic, areDigits, spellEntry, headOf}
+use Rattle.blobs.specs.Blobs.{Blob, blob, Sound, magic, areDigits, spellEntry, headOf}
 use Rattle.blobs.proofs.Heads.{Passed, passed}
 use Rattle.blobs.proofs.Written.{magic-spelled, length-entry}
 
@@ -25,7 +25,7 @@ module _ (s : List ℕ) (at n : ℕ) (a r : List ℕ) (e : drop at s ≡ a ++ r)
 
 -- the blob that is read where an entry of so many bytes of data stands
 abbrev pub blobOf : List ℕ → ℕ → Blob
-blobOf l n = record { digits = take 64 (drop 14 l); «data» = take n (drop 110 l) }
+blobOf l n = blob (take 64 (drop 14 l)) (take n (drop 110 l))
 
 pub record Stood (l : List ℕ) (b : Blob) (z : List ℕ) : Type 0 where
   pub good : Passed l (length (b .«data»))
@@ -33,7 +33,7 @@ pub record Stood (l : List ℕ) (b : Blob) (z : List ℕ) : Type 0 where
   pub rest : drop (110 + length (b .«data»)) l ≡ z
   pub long : length l ≡ 110 + length (b .«data») + length z
 
-same-blob : {a b c d : List ℕ} → a ≡ c → b ≡ d → _≡_ {A = Blob} (record { digits = a; «data» = b }) (record { digits = c; «data» = d })
+same-blob : {a b c d : List ℕ} → a ≡ c → b ≡ d → blob a b ≡ blob c d
 same-blob p q = rw (p, q)
 
 pub stood : (l : List ℕ) (b : Blob) (z : List ℕ) → Sound b → l ≡ spellEntry b ++ z → Stood l b z

@@ -1,5 +1,5 @@
 -- What the writer's six stores leave, and its checks, by the tests as the code makes them: stores side by side are one. Assumes nothing.
-use mathlib.Core.Path.{_≡_, refl}
+use mathlib.Core.Path.{_≡_, refl, ap}
 use Prim.Native.Nat.{ℕ, _+_, _≤_, _<_}
 use native.Mathlib.Omega.{arith}
 use mathlib.Core.Bool.{Bool, true, false}
@@ -8,13 +8,14 @@ use lib.ListN.{length, take, replicate, length-append, length-replicate}
 use lib.Seq.{take-all}
 use lib.Dec.{eqb, leb}
 use borrow.Author.Tests.{le-leb, lt-leb, ne-eqb, eq-eqb, leb-true, eqb-true}
-use Rattle.words.specs.Checks.{_unless_then_, fine}
+use Rattle.words.specs.Checks.{pick, _unless_then_, fine}
 use Rattle.words.specs.Le.{spell, puts}
 use Rattle.words.specs.Refusals.{refusedAt}
 use Rattle.words.proofs.Numbers.{length-spell}
 use Rattle.words.proofs.Stores.{puts-then}
+use Rattle.blobs.specs.declared.Put.{Put}
 use Rattle.blobs.specs.declared.Put.the-variants as put
-use Rattle.blobs.specs.Blobs.{Blob, magic, areDigits, spellEntry, putFault, putOf, bufferOf}
+use Rattle.blobs.specs.Blobs.{Blob, magic, areDigits, spellEntry, entrySize, putFault, putOf, bufferOf}
 use Rattle.blobs.specs.Claims.{Allowed}
 
 pub magic-spelled : spell 4 1112036173 ≡ magic
@@ -24,7 +25,7 @@ magic-spelled = refl
 -- ## Where each part of an entry begins
 
 module _ (b : Blob) (h : length (b .digits) ≡ 64) where
-  pub length-entry : length (spellEntry b) ≡ 110 + length (b .«data»)
+  pub length-entry : length (spellEntry b) ≡ entrySize b
   unfolding spellEntry
   length-entry = simp (length-append, length-spell, length-replicate) (omega arith)
 
@@ -54,23 +55,23 @@ module _ (b : Blob) (h : length (b .digits) ≡ 64) where
 
 -- ## The checks
 
-module _ (digits : List ℕ) (n room : ℕ) where
-  pub other-size : (length digits ≡ 64 → ⊥) → 27 ≡ putFault digits n room
+module _ (b : Blob) (room : ℕ) where
+  pub other-size : (length (b .digits) ≡ 64 → ⊥) → 27 ≡ putFault b room
   unfolding putFault
-  other-size h = rw (ne-eqb (length digits) 64 h)
+  other-size h = rw (ne-eqb (length (b .digits)) 64 h)
 
-  module _ (e : length digits ≡ 64) where
-    pub not-hex : areDigits digits ≡ false → 27 ≡ putFault digits n room
+  module _ (e : length (b .digits) ≡ 64) where
+    pub not-hex : areDigits (b .digits) ≡ false → 27 ≡ putFault b room
     unfolding putFault
-    not-hex d = rw (eq-eqb (length digits) 64 e, d)
+    not-hex d = rw (eq-eqb (length (b .digits)) 64 e, d)
 
-    pub no-room : areDigits digits ≡ true → room < 110 + n → 15 ≡ putFault digits n room
+    pub no-room : areDigits (b .digits) ≡ true → room < entrySize b → 15 ≡ putFault b room
     unfolding putFault
-    no-room d l = rw (eq-eqb (length digits) 64 e, d, lt-leb _ _ l)
+    no-room d l = rw (eq-eqb (length (b .digits)) 64 e, d, lt-leb _ _ l)
 
-    pub may-write : areDigits digits ≡ true → 110 + n ≤ room → 0 ≡ putFault digits n room
+    pub may-write : areDigits (b .digits) ≡ true → entrySize b ≤ room → 0 ≡ putFault b room
     unfolding putFault
-    may-write d l = rw (eq-eqb (length digits) 64 e, d, le-leb _ _ l)
+    may-write d l = rw (eq-eqb (length (b .digits)) 64 e, d, le-leb _ _ l)
 
 -- what no fault says
 record ThreeTrue (a b c : Bool) : Type 0 where
@@ -84,21 +85,31 @@ three-true false b c p = absurd (omega arith)
 three-true true false c p = absurd (omega arith)
 three-true true true false p = absurd (omega arith)
 
-pub allowed : (digits : List ℕ) (n room : ℕ) → putFault digits n room ≡ 0 → Allowed digits n room
+pub allowed : (b : Blob) (room : ℕ) → putFault b room ≡ 0 → Allowed b room
 unfolding putFault
-allowed digits n room p =
-    let a : ThreeTrue (eqb (length digits) 64) (areDigits digits) (leb (110 + n) room) = three-true _ _ _ p in
+allowed b room p =
+    let a : ThreeTrue (eqb (length (b .digits)) 64) (areDigits (b .digits)) (leb (entrySize b) room) = three-true _ _ _ p in
     record { size = eqb-true _ _ (a .one); hex = a .two; fits = leb-true _ _ (a .three) }
 
 -- ## What the writer answers and leaves
 
-module _ (digits bytes buf : List ℕ) where
-  pub written : putFault digits (length bytes) (length buf) ≡ 0 → {l : List ℕ} → l ≡ puts buf 0 (spellEntry (record { digits = digits; «data» = bytes }))
-      → (put.Wrote (110 + length bytes) ≡ putOf digits bytes (length buf)) × (l ≡ bufferOf digits bytes buf)
+abbrev isRefused : Put → ℕ
+isRefused (put.Wrote n) = 0
+isRefused (put.Refused r) = 1
+
+module _ (b : Blob) (buf : List ℕ) where
+  pub written : putFault b (length buf) ≡ 0 → {l : List ℕ} → l ≡ puts buf 0 (spellEntry b) → (put.Wrote (entrySize b) ≡ putOf b (length buf)) × (l ≡ bufferOf b buf)
   unfolding putOf bufferOf
   written p e = (rw p, rw (p, e))
 
-  pub not-written : (putFault digits (length bytes) (length buf) ≡ 0 → ⊥) → {k : ℕ} → k ≡ putFault digits (length bytes) (length buf)
-      → (put.Refused (refusedAt 0 k) ≡ putOf digits bytes (length buf)) × (buf ≡ bufferOf digits bytes buf)
+  pub not-written : (putFault b (length buf) ≡ 0 → ⊥) → {k : ℕ} → k ≡ putFault b (length buf) → (put.Refused (refusedAt 0 k) ≡ putOf b (length buf)) × (buf ≡ bufferOf b buf)
   unfolding putOf bufferOf
-  not-written n e = (rw (ne-eqb (putFault digits (length bytes) (length buf)) 0 n, e), rw (ne-eqb (putFault digits (length bytes) (length buf)) 0 n))
+  not-written n e = (rw (ne-eqb (putFault b (length buf)) 0 n, e), rw (ne-eqb (putFault b (length buf)) 0 n))
+
+pub wrote-free : (b : Blob) (room : ℕ) → putOf b room ≡ put.Wrote (entrySize b) → putFault b room ≡ 0
+unfolding putOf
+wrote-free b room e = go (eqb (putFault b room) fine) refl e
+  where
+    go : (t : Bool) → eqb (putFault b room) fine ≡ t → pick t (put.Wrote (entrySize b)) (put.Refused (refusedAt 0 (putFault b room))) ≡ put.Wrote (entrySize b) → putFault b room ≡ 0
+    go true q f = eqb-true _ _ q
+    go false q f = let z = ap isRefused f in absurd (omega arith)

@@ -36,12 +36,19 @@ pub record Blob : Type 0 where
   pub digits : List ℕ
   pub «data» : List ℕ
 
+abbrev pub blob : List ℕ → List ℕ → Blob
+blob digits bytes = record { digits = digits; «data» = bytes }
+
 -- "MSHB"
 abbrev pub magic : List ℕ
 magic = 77 ∷ 83 ∷ 72 ∷ 66 ∷ []
 
 unfoldable pub spellEntry : Blob → List ℕ
 spellEntry b = magic ++ spell 2 1 ++ spell 8 (length (b .«data»)) ++ b .digits ++ replicate 32 0 ++ b .«data»
+
+-- the 110 bytes, and the data
+abbrev pub entrySize : Blob → ℕ
+entrySize b = 110 + length (b .«data»)
 
 -- a blob that an entry can keep: 64 digits, and data of bytes whose length has 64 bits
 pub record Sound (b : Blob) : Type 0 where
@@ -103,27 +110,26 @@ entryAt s at = entryBy at (wholeOf (drop at s))
 
 -- the blob whose parts are in these places of the buffer
 abbrev pub blobIn : List ℕ → Parts → Blob
-blobIn s p = record { digits = take 64 (drop (p .digits .0) s); «data» = take (p .length) (drop (p .«data» .0) s) }
+blobIn s p = blob (take 64 (drop (p .digits .0) s)) (take (p .length) (drop (p .«data» .0) s))
 
 -- ## The writer
 
--- the first check that fails, or fine; so many bytes of data, and a buffer of so many bytes
-unfoldable pub putFault : List ℕ → ℕ → ℕ → ℕ
-putFault digits n room =
+-- the first check that fails, or fine; in a buffer of so many bytes
+unfoldable pub putFault : Blob → ℕ → ℕ
+putFault b room =
     -- there are 64 digits
-    27 unless eqb (length digits) 64 then
-    27 unless areDigits digits then
+    27 unless eqb (length (b .digits)) 64 then
+    27 unless areDigits (b .digits) then
     -- the buffer is not shorter than both together
-    15 unless leb (110 + n) room then fine
+    15 unless leb (entrySize b) room then fine
 
 -- both are refused at 0
-unfoldable pub putOf : List ℕ → List ℕ → ℕ → Put
-putOf digits bytes room =
-    pick (eqb (putFault digits (length bytes) room) fine) (put.Wrote (110 + length bytes)) (put.Refused (refusedAt 0 (putFault digits (length bytes) room)))
+unfoldable pub putOf : Blob → ℕ → Put
+putOf b room = pick (eqb (putFault b room) fine) (put.Wrote (entrySize b)) (put.Refused (refusedAt 0 (putFault b room)))
 
 -- what the buffer then holds
-unfoldable pub bufferOf : List ℕ → List ℕ → List ℕ → List ℕ
-bufferOf digits bytes buf = pick (eqb (putFault digits (length bytes) (length buf)) fine) (puts buf 0 (spellEntry (record { digits = digits; «data» = bytes }))) buf
+unfoldable pub bufferOf : Blob → List ℕ → List ℕ
+bufferOf b buf = pick (eqb (putFault b (length buf)) fine) (puts buf 0 (spellEntry b)) buf
 
 -- ## The scan
 

@@ -14,7 +14,7 @@ use Rattle.blobs.specs.declared.Entry.the-variants as entry
 use Rattle.blobs.specs.declared.Put.the-variants as put
 use Rattle.blobs.specs.declared.Scanned.{Scanned}
 use Rattle.blobs.specs.declared.Scanned.the-variants as scanned
-use Rattle.blobs.specs.Blobs.{Blob, Sound, AllSound, areDigits, bytesIn, spellEntry, spellAll, headOf, entryAt, blobIn, putFault, putOf, bufferOf, none, scanOf}
+use Rattle.blobs.specs.Blobs.{Blob, Sound, AllSound, areDigits, bytesIn, spellEntry, entrySize, spellAll, headOf, entryAt, blobIn, putOf, bufferOf, none, scanOf}
 
 -- ## Words for the claims
 
@@ -55,17 +55,16 @@ pub record Fate (s : List ℕ) : Type 0 where
   pub cut : spellAll blobs ++ rest ≡ s
   pub ends : 0 < length rest → IsFound (entryAt rest 0) → ⊥
 
--- what the writer asks of digits, for so many bytes of data and of a buffer
-pub record Allowed (digits : List ℕ) (n room : ℕ) : Type 0 where
-  pub size : length digits ≡ 64
-  pub hex : areDigits digits ≡ true
-  pub fits : 110 + n ≤ room
+-- what the writer asks of a blob and a buffer of so many bytes
+pub record Allowed (b : Blob) (room : ℕ) : Type 0 where
+  pub size : length (b .digits) ≡ 64
+  pub hex : areDigits (b .digits) ≡ true
+  pub fits : entrySize b ≤ room
 
 -- entries written one behind the other, each at the start of what is left of a buffer
 abbrev pub putAll : List Blob → List ℕ → List ℕ
 putAll [] buf = buf
-putAll (b ∷ bs) buf =
-    take (110 + length (b .«data»)) (bufferOf (b .digits) (b .«data») buf) ++ putAll bs (drop (110 + length (b .«data»)) (bufferOf (b .digits) (b .«data») buf))
+putAll (b ∷ bs) buf = take (entrySize b) (bufferOf b buf) ++ putAll bs (drop (entrySize b) (bufferOf b buf))
 
 -- ## The reader
 
@@ -73,7 +72,7 @@ pub record ReadClaim : Type 0 where
   -- an entry is found exactly where that of a sound blob stands
   pub accepts : (s : List ℕ) (at : ℕ) → Bytes s → IsFound (entryAt s at) ↔ Stands s at
   -- wherever it stands, among any bytes, what is found is its blob
-  pub there : (before after : List ℕ) (b : Blob) → Sound b → Reads (before ++ spellEntry b ++ after) (length before) b (length before + (110 + length (b .«data»)))
+  pub there : (before after : List ℕ) (b : Blob) → Sound b → Reads (before ++ spellEntry b ++ after) (length before) b (length before + entrySize b)
   -- each entry of a file is found at its position, and the next position is that of the entry behind it
   pub each : (s : List ℕ) (before : List Blob) (b : Blob) (after : List Blob) → Spells (before ++ b ∷ after) s
       → Reads s (length (spellAll before)) b (length (spellAll (before ++ b ∷ [])))
@@ -81,7 +80,7 @@ pub record ReadClaim : Type 0 where
   pub past : (s : List ℕ) (at : ℕ) → length s ≤ at → entryAt s at ≡ entry.Refused (refusedAt at 24)
   -- a refusal is at the position asked for, with the number of the bytes from there on
   pub alone : (before rest : List ℕ) (r : Refusal) → entryAt rest 0 ≡ entry.Refused r → entryAt (before ++ rest) (length before) ≡ entry.Refused (refusedAt (length before) (r .number))
-  -- the first 110 bytes say what a head says
+  -- the first 110 bytes alone decide what a head says
   pub head : (left : List ℕ) → headOf (take 110 left) ≡ headOf left
 
 -- ## The scan
@@ -102,18 +101,19 @@ pub record ScanClaim : Type 0 where
 
 pub record WriteClaim : Type 0 where
   -- written exactly if there are 64 digits and room
-  pub exactly : (digits : List ℕ) (n room : ℕ) → (putFault digits n room ≡ 0) ↔ Allowed digits n room
+  pub exactly : (b : Blob) (room : ℕ) → (putOf b room ≡ put.Wrote (entrySize b)) ↔ Allowed b room
   -- then the entry stands at the start of the buffer
-  pub begins : (b : Blob) (buf : List ℕ) → Allowed (b .digits) (length (b .«data»)) (length buf) → take (110 + length (b .«data»)) (bufferOf (b .digits) (b .«data») buf) ≡ spellEntry b
+  pub begins : (b : Blob) (buf : List ℕ) → Allowed b (length buf) → take (entrySize b) (bufferOf b buf) ≡ spellEntry b
   -- no byte behind it changes, and the buffer keeps its length; refused, no byte changes
-  pub behind : (b : Blob) (buf : List ℕ) → drop (110 + length (b .«data»)) (bufferOf (b .digits) (b .«data») buf) ≡ drop (110 + length (b .«data»)) buf
-  pub keeps : (b : Blob) (buf : List ℕ) → length (bufferOf (b .digits) (b .«data») buf) ≡ length buf
-  pub refused : (b : Blob) (buf : List ℕ) → (Allowed (b .digits) (length (b .«data»)) (length buf) → ⊥) → bufferOf (b .digits) (b .«data») buf ≡ buf
+  pub behind : (b : Blob) (buf : List ℕ) → drop (entrySize b) (bufferOf b buf) ≡ drop (entrySize b) buf
+  pub keeps : (b : Blob) (buf : List ℕ) → length (bufferOf b buf) ≡ length buf
+  pub refused : (b : Blob) (buf : List ℕ) → (Allowed b (length buf) → ⊥) → bufferOf b buf ≡ buf
   -- what was written is found there
-  pub write-read : (b : Blob) (buf : List ℕ) → Sound b → 110 + length (b .«data») ≤ length buf → Reads (bufferOf (b .digits) (b .«data») buf) 0 b (110 + length (b .«data»))
-  -- what was found, written into any buffer with room, is the same bytes again
-  pub read-write : (s : List ℕ) (at : ℕ) (b : Blob) (next : ℕ) (buf : List ℕ) → Bytes s → Reads s at b next → 110 + length (b .«data») ≤ length buf
-      → (putOf (b .digits) (b .«data») (length buf) ≡ put.Wrote (110 + length (b .«data»))) × (at + (110 + length (b .«data»)) ≡ next)
-      × (take (110 + length (b .«data»)) (bufferOf (b .digits) (b .«data») buf) ≡ take (110 + length (b .«data»)) (drop at s))
+  pub write-read : (b : Blob) (buf : List ℕ) → Sound b → entrySize b ≤ length buf → Reads (bufferOf b buf) 0 b (entrySize b)
+  -- what was found, written into any buffer with room, is the same bytes again, up to the next position
+  pub read-write : (s : List ℕ) (at : ℕ) (b : Blob) (next : ℕ) (buf : List ℕ) → Bytes s → Reads s at b next → entrySize b ≤ length buf
+      → (putOf b (length buf) ≡ put.Wrote (entrySize b)) × (at + entrySize b ≡ next) × (take (entrySize b) (bufferOf b buf) ≡ take (entrySize b) (drop at s))
   -- all blobs of a file, written one behind the other, are its bytes, and nothing behind them changes
   pub whole : (s : List ℕ) (bs : List Blob) (buf : List ℕ) → Spells bs s → length s ≤ length buf → putAll bs buf ≡ s ++ drop (length s) buf
+  -- any sound blobs, written so into a buffer just long enough, are a file of these
+  pub file : (bs : List Blob) (buf : List ℕ) → AllSound bs → length buf ≡ length (spellAll bs) → Spells bs (putAll bs buf)

@@ -9,14 +9,14 @@ use Rattle.blobs.specs.declared.Entry.{Entry}
 use Rattle.blobs.specs.declared.Entry.the-variants as entry
 use Rattle.blobs.specs.declared.Put.the-variants as put
 use Rattle.blobs.specs.declared.Scanned.the-variants as scanned
-use Rattle.blobs.specs.Blobs.{Blob, areDigits, spellEntry, spellAll, headOf, wholeOf, partsAt, entryAt, blobIn, putFault, putOf, bufferOf, scanFrom, scanOf}
+use Rattle.blobs.specs.Blobs.{Blob, blob, areDigits, spellEntry, spellAll, headOf, wholeOf, partsAt, entryAt, blobIn, putFault, putOf, bufferOf, scanFrom, scanOf}
 
 -- its hash is all `a` in the first, all `A` in the second, which has no data
 abbrev one : Blob
-one = record { digits = replicate 64 97; «data» = 1 ∷ 2 ∷ 3 ∷ [] }
+one = blob (replicate 64 97) (1 ∷ 2 ∷ 3 ∷ [])
 
 abbrev two : Blob
-two = record { digits = replicate 64 65; «data» = [] }
+two = blob (replicate 64 65) []
 
 abbrev file : List ℕ
 file = spellAll (one ∷ two ∷ [])
@@ -53,11 +53,11 @@ pub record Examples : Type 0 where
   cut : scanOf (take 222 file) ≡ scanned.Refused (refusedAt 113 24)
   behind : scanOf (file ++ (0 ∷ [])) ≡ scanned.Refused (refusedAt 223 24)
   -- the writer: the entry and no byte behind it; no room, and no digits
-  written : bufferOf (one .digits) (one .«data») (replicate 115 7) ≡ spellEntry one ++ (7 ∷ 7 ∷ [])
-  answer : putOf (one .digits) (one .«data») 115 ≡ put.Wrote 113
-  no-room : putOf (one .digits) (one .«data») 112 ≡ put.Refused (refusedAt 0 15)
-  untouched : bufferOf (one .digits) (one .«data») (replicate 112 7) ≡ replicate 112 7
-  no-digits : putOf (drop 1 (one .digits)) (one .«data») 0 ≡ put.Refused (refusedAt 0 27)
+  written : bufferOf one (replicate 115 7) ≡ spellEntry one ++ (7 ∷ 7 ∷ [])
+  answer : putOf one 115 ≡ put.Wrote 113
+  no-room : putOf one 112 ≡ put.Refused (refusedAt 0 15)
+  untouched : bufferOf one (replicate 112 7) ≡ replicate 112 7
+  no-digits : putOf (blob (drop 1 (one .digits)) (one .«data»)) 0 ≡ put.Refused (refusedAt 0 27)
 
 examples : Examples
 unfolding areDigits spellEntry headOf wholeOf entryAt putFault putOf bufferOf scanFrom scanOf leAt leNum spell puts zerosAt

@@ -6,7 +6,7 @@ use host::blob_answers;
 use words::Position;
 ghost use mathlib.Core.Path.{_≡_};
 ghost use lib.ListN.{length};
-ghost use Rattle.blobs.specs.Blobs.{entryAt, putOf, bufferOf, scanOf};
+ghost use Rattle.blobs.specs.Blobs.{blob, entryAt, putOf, bufferOf, scanOf};
 ghost use Rattle.host.specs.BlobAnswers.{entryOut, putOut, scannedOut};
 
 // The entry at a position of a lent buffer.
@@ -20,8 +20,8 @@ pub extern "C" fn mdb_blob_entry_at(buf: &[u8], at: u64) -> EntryState
 // An entry of a hash of these digits and of these data, at the start of a lent buffer.
 #[no_mangle]
 pub extern "C" fn mdb_blob_put_entry(digits: &[u8], data: &[u8], out: &mut [u8]) -> PutState
-    ensures { λ r. ⌜ (r ≡ putOut (putOf (now (digits .entry)) (now («data» .entry)) (length (now (out .entry)))))
-        × (now (out .exit) ≡ bufferOf (now (digits .entry)) (now («data» .entry)) (now (out .entry))) ⌝ }
+    ensures { λ r. ⌜ (r ≡ putOut (putOf (blob (now (digits .entry)) (now («data» .entry))) (length (now (out .entry)))))
+        × (now (out .exit) ≡ bufferOf (blob (now (digits .entry)) (now («data» .entry))) (now (out .entry))) ⌝ }
 {
     blob_answers::put_out(blobs::put_entry(digits, data, out))
 }

@@ -1,5 +1,5 @@
-// Numbers, hashes and whole records in lent bytes: read, written and compared; and parts of one slice put into another. An inner crate: a function that takes a position asks
-// that what it reads or writes lies within the slice. What is read and written is said in specs/Le (numbers) and specs/Record (hashes and records).
+// Positions and refusals, which all of the library has; and numbers, hashes and whole records in lent bytes: read, written and compared, and parts of one slice put into
+// another. An inner crate: a function that takes a position asks that what it reads or writes lies within the slice. What is read and written is said in specs/Le (numbers) and specs/Record (hashes and records).
 pub mod foot;
 pub mod hash;
 pub mod number;

@@ -6,7 +6,7 @@ use Prim.Native.Nat.{ℕ, _+_}
 use lib.ListN.{take, drop, replicate, set}
 use Rattle.words.specs.Le.{leAt, leNum, spell, puts, zerosAt}
 use Rattle.words.specs.Refusals.{refusedAt}
-use Rattle.blobs.specs.Blobs.{Blob, isDigit, areDigits, magic, spellEntry, headOf, wholeOf, partsAt, entryAt, blobIn, putFault, putOf, bufferOf, bytesIn, scanFrom, scanOf}
+use Rattle.blobs.specs.Blobs.{blob, isDigit, areDigits, magic, spellEntry, headOf, wholeOf, partsAt, entryAt, blobIn, putFault, putOf, bufferOf, bytesIn, scanFrom, scanOf}
 use Rattle.blobs.specs.declared.Head.the-variants as head
 use Rattle.blobs.specs.declared.Entry.{Entry}
 use Rattle.blobs.specs.declared.Entry.the-variants as entry
@@ -24,9 +24,6 @@ lower = replicate 64 97
 
 abbrev upper : List ℕ
 upper = replicate 64 65
-
-abbrev blob : List ℕ → List ℕ → Blob
-blob digits bytes = record { digits = digits; «data» = bytes }
 
 abbrev pub three : List ℕ
 three = 1 ∷ 2 ∷ 3 ∷ []
@@ -113,7 +110,7 @@ wrongs =
     -- the first digit, the last one not looked at
     ∷ (entryAt (with 14 103) 0 not foundAt 14 110 3 113 by entryTold)
     ∷ (entryAt (with 77 103) 0 not foundAt 14 110 3 113 by entryTold)
-    -- digits up to the reserved bytes only if these are digits too
+    -- the reserved bytes asked to be digits too
     ∷ (entryAt small 0 not refusedWith 27 by entryTold)
     -- ## `entry_at`: reserved
     -- not looked at: the first of them, the last
@@ -182,36 +179,36 @@ wrongs =
     ∷ (scanOf (file ++ (0 ∷ [])) not counts 2 3 by scannedTold)
     -- ## `put_entry`: the checks
     -- room before digits
-    ∷ (putOf (0 ∷ []) three 0 not put.Refused (refusedAt 0 15) by putTold)
+    ∷ (putOf (blob (0 ∷ []) three) 0 not put.Refused (refusedAt 0 15) by putTold)
     -- a hash of 63 digits, of 65
-    ∷ (putOf (drop 1 lower) three 113 not put.Wrote 113 by putTold)
-    ∷ (putOf (97 ∷ lower) three 113 not put.Wrote 113 by putTold)
+    ∷ (putOf (blob (drop 1 lower) three) 113 not put.Wrote 113 by putTold)
+    ∷ (putOf (blob (97 ∷ lower) three) 113 not put.Wrote 113 by putTold)
     -- a hash without digits
-    ∷ (putOf (set lower 63 103) three 113 not put.Wrote 113 by putTold)
+    ∷ (putOf (blob (set lower 63 103) three) 113 not put.Wrote 113 by putTold)
     -- upper case refused
-    ∷ (putOf upper three 113 not put.Refused (refusedAt 0 27) by putTold)
+    ∷ (putOf (blob upper three) 113 not put.Refused (refusedAt 0 27) by putTold)
     -- room enough refused; one byte too few is enough; room for the 110 bytes is
-    ∷ (putOf lower three 113 not put.Refused (refusedAt 0 15) by putTold)
-    ∷ (putOf lower three 112 not put.Wrote 113 by putTold)
-    ∷ (putOf lower three 110 not put.Wrote 113 by putTold)
+    ∷ (putOf (blob lower three) 113 not put.Refused (refusedAt 0 15) by putTold)
+    ∷ (putOf (blob lower three) 112 not put.Wrote 113 by putTold)
+    ∷ (putOf (blob lower three) 110 not put.Wrote 113 by putTold)
     -- so many bytes as the head has, as the data have
-    ∷ (putOf lower three 113 not put.Wrote 110 by putTold)
-    ∷ (putOf lower three 113 not put.Wrote 3 by putTold)
+    ∷ (putOf (blob lower three) 113 not put.Wrote 110 by putTold)
+    ∷ (putOf (blob lower three) 113 not put.Wrote 3 by putTold)
     -- a refusal where the room ends
-    ∷ (putOf lower three 112 not put.Refused (refusedAt 112 15) by putTold)
+    ∷ (putOf (blob lower three) 112 not put.Refused (refusedAt 112 15) by putTold)
     -- ## `put_entry`: the buffer
     -- refused, the 110 bytes are written
-    ∷ (bufferOf lower three (room 112) not take 110 small ++ room 2 by numbers)
+    ∷ (bufferOf (blob lower three) (room 112) not take 110 small ++ room 2 by numbers)
     -- the digits in the other case
-    ∷ (bufferOf upper three (room 113) not small by numbers)
+    ∷ (bufferOf (blob upper three) (room 113) not small by numbers)
     -- the reserved bytes left as they were
-    ∷ (bufferOf lower three (room 113) not take 78 small ++ room 32 ++ three by numbers)
+    ∷ (bufferOf (blob lower three) (room 113) not take 78 small ++ room 32 ++ three by numbers)
     -- the length with the 110 bytes
-    ∷ (bufferOf lower three (room 113) not saying 113 by numbers)
+    ∷ (bufferOf (blob lower three) (room 113) not saying 113 by numbers)
     -- a byte behind the data set to 0
-    ∷ (bufferOf lower three (room 114) not small ++ (0 ∷ []) by numbers)
+    ∷ (bufferOf (blob lower three) (room 114) not small ++ (0 ∷ []) by numbers)
     -- the entry at the end of the buffer
-    ∷ (bufferOf lower three (room 114) not 255 ∷ small by numbers)
+    ∷ (bufferOf (blob lower three) (room 114) not 255 ∷ small by numbers)
     -- ## `bytesIn`
     -- the last blob left out
     ∷ (bytesIn (blob lower three ∷ blob upper three ∷ []) not 3 by number)

@@ -24,7 +24,7 @@ use Rattle.join.specs.Join.{joinedAt, joinedBytes, joinFault, answerFor, joinOf
 use Rattle.plan.specs.Plan.{rowsFor, segmentsIn, planOf, answerTo, tableTo}
 use Rattle.audit.specs.Audit.{firstFalse, auditIn, placedIn, blocksIn, auditOf}
 use Rattle.blobs.specs.Blobs as blobs
-use Rattle.blobs.specs.Blobs.{areDigits, spellEntry, headOf, wholeOf, entryAt, putFault, putOf, scanFrom, scanOf}
+use Rattle.blobs.specs.Blobs.{blob, areDigits, spellEntry, headOf, wholeOf, entryAt, putFault, putOf, scanFrom, scanOf}
 use Rattle.host.specs.Boundary.{readerIn, readerOut, stepOut, readOut, verdictOut, writerIn, writerOut, writtenOut, writtenFor, bufferFor}
 use Rattle.host.specs.Founds.{chunkOut, fileOut}
 use Rattle.host.specs.Joins.{joinedOut}
@@ -140,9 +140,9 @@ wrongs =
     ∷ (entryOut (entryAt file 1000) .number not 0 by number)
     -- ## `mdb_blob_put_entry`
     -- digits and data exchanged
-    ∷ (putOut (putOf lower three 113) .number not putOut (putOf three lower 113) .number by number)
+    ∷ (putOut (putOf (blob lower three) 113) .number not putOut (putOf (blob three lower) 113) .number by number)
     -- the buffer left as it was
-    ∷ (blobs.bufferOf lower three (room 113) not room 113 by numbers)
+    ∷ (blobs.bufferOf (blob lower three) (room 113) not room 113 by numbers)
     -- ## `mdb_blob_scan`
     -- the first entry only
     ∷ (scannedOut (scanOf file) .entries not 1 by number)
