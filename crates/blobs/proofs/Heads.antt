@@ -13,6 +13,7 @@ use borrow.Author.Tests.{le-leb, lt-leb, ne-eqb, eq-eqb, leb-true, leb-false, eq
 use Rattle.words.specs.Checks.{_unless_then_}
 use Rattle.words.specs.Le.{leAt, leNum, zerosAt}
 use Rattle.words.proofs.Zeros.{and-assoc, and-true}
+use Rattle.words.proofs.Checks.{passed-on}
 use Rattle.words.proofs.Parts.{le-front, zeros-front}
 use Rattle.blobs.specs.declared.Head.{Head}
 use Rattle.blobs.specs.declared.Head.the-variants as head
@@ -75,33 +76,19 @@ abbrev dataIn : Head → ℕ
 dataIn (head.Data n) = suc n
 dataIn (head.Fault k) = 0
 
-pub no-fault : {A : Type 0} {k n : ℕ} → head.Fault k ≡ head.Data n → A
-no-fault e = let z = ap dataIn e in absurd (omega arith)
-
--- a list of five checks, none of which fails
-record AllTrue (a b c d e : Bool) (n m : ℕ) : Type 0 where
-  pub one : a ≡ true
-  pub two : b ≡ true
-  pub three : c ≡ true
-  pub four : d ≡ true
-  pub five : e ≡ true
-  pub same : n ≡ m
-
-all-true : (a b c d e : Bool) (n m : ℕ)
-    → (head.Fault 24 unless a then head.Fault 25 unless b then head.Fault 26 unless c then head.Fault 27 unless d then head.Fault 28 unless e then head.Data n) ≡ head.Data m
-    → AllTrue a b c d e n m
-all-true true true true true true n m p = record { one = refl; two = refl; three = refl; four = refl; five = refl; same = let z = ap dataIn p in omega arith }
-all-true false b c d e n m p = no-fault p
-all-true true false c d e n m p = no-fault p
-all-true true true false d e n m p = no-fault p
-all-true true true true false e n m p = no-fault p
-all-true true true true true false n m p = no-fault p
+no-fault : (k n : ℕ) → head.Fault k ≡ head.Data n → ⊥
+no-fault k n e = let z = ap dataIn e in absurd (omega arith)
 
 pub passed : (l : List ℕ) (n : ℕ) → headOf l ≡ head.Data n → Passed l n
 unfolding headOf leNum
 passed l n p =
-    let a : AllTrue (leb 110 (length l)) (eqb (leAt 4 l 0) 1112036173) (eqb (leAt 2 l 4) 1) (areDigits (take 64 (drop 14 l))) (zerosAt 32 l 78) (leAt 8 l 6) n = all-true _ _ _ _ _ _ _ p in
-    record { fits = leb-true _ _ (a .one); magic-there = eqb-true _ _ (a .two); version = eqb-true _ _ (a .three); digits = a .four; zeros = a .five; told = a .same }
+    let (e1, z1) = passed-on (leb 110 (length l)) _ _ _ (no-fault 24 n) p in
+    let (e2, z2) = passed-on (eqb (leAt 4 l 0) 1112036173) _ _ _ (no-fault 25 n) z1 in
+    let (e3, z3) = passed-on (eqb (leAt 2 l 4) 1) _ _ _ (no-fault 26 n) z2 in
+    let (e4, z4) = passed-on (areDigits (take 64 (drop 14 l))) _ _ _ (no-fault 27 n) z3 in
+    let (e5, z5) = passed-on (zerosAt 32 l 78) _ _ _ (no-fault 28 n) z4 in
+    let z = ap dataIn z5 in
+    record { fits = leb-true _ _ e1; magic-there = eqb-true _ _ e2; version = eqb-true _ _ e3; digits = e4; zeros = e5; told = omega arith }
 
 pub all-passed : (l : List ℕ) (n : ℕ) → Passed l n → headOf l ≡ head.Data n
 all-passed l n p = sym (good l (p .fits) refl (p .magic-there) refl (p .version) (p .digits) (p .zeros)) ∙ ap head.Data (p .told)
@@ -137,16 +124,14 @@ pub whole : (l : List ℕ) (n : ℕ) → wholeOf l ≡ head.Data n → Whole l n
 unfolding wholeOf
 whole l n e = go (headOf l) refl e
   where
-    fit : (m : ℕ) (t : Bool) → headOf l ≡ head.Data m → leb (110 + m) (length l) ≡ t → (head.Fault 29 unless t then head.Data m) ≡ head.Data n → Whole l n
-    fit m true q b f =
-        let s : m ≡ n = let z = ap dataIn f in omega arith in
-        let h : 110 + m ≤ length l = leb-true _ _ b in
-        record { said = q ∙ ap head.Data s; within = omega arith }
-    fit m false q b f = no-fault f
-
     go : (h : Head) → headOf l ≡ h → fitting (length l) h ≡ head.Data n → Whole l n
-    go (head.Fault k) q f = no-fault f
-    go (head.Data m) q f = fit m (leb (110 + m) (length l)) q refl f
+    go (head.Fault k) q f = absurd (no-fault k n f)
+    go (head.Data m) q f =
+        let (e1, z1) = passed-on (leb (110 + m) (length l)) _ _ _ (no-fault 29 n) f in
+        let z = ap dataIn z1 in
+        let s : m ≡ n = omega arith in
+        let h : 110 + m ≤ length l = leb-true _ _ e1 in
+        record { said = q ∙ ap head.Data s; within = omega arith }
 
 -- ## Only the first 110 bytes count
 

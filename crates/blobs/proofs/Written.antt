@@ -2,15 +2,16 @@
 use mathlib.Core.Path.{_≡_, refl, ap}
 use Prim.Native.Nat.{ℕ, _+_, _≤_, _<_}
 use native.Mathlib.Omega.{arith}
-use mathlib.Core.Bool.{Bool, true, false}
+use mathlib.Core.Bool.{true, false}
 use mathlib.Core.List.{List, _++_}
 use lib.ListN.{length, take, replicate, length-append, length-replicate}
 use lib.Seq.{take-all}
 use lib.Dec.{eqb, leb}
 use borrow.Author.Tests.{le-leb, lt-leb, ne-eqb, eq-eqb, leb-true, eqb-true}
-use Rattle.words.specs.Checks.{pick, _unless_then_, fine}
+use Rattle.words.specs.Checks.{fine}
 use Rattle.words.specs.Le.{spell, puts}
 use Rattle.words.specs.Refusals.{refusedAt}
+use Rattle.words.proofs.Checks.{passed-on, passed}
 use Rattle.words.proofs.Numbers.{length-spell}
 use Rattle.words.proofs.Stores.{puts-then}
 use Rattle.blobs.specs.declared.Put.{Put}
@@ -74,22 +75,13 @@ module _ (b : Blob) (room : ℕ) where
     may-write d l = rw (eq-eqb (length (b .digits)) 64 e, d, le-leb _ _ l)
 
 -- what no fault says
-record ThreeTrue (a b c : Bool) : Type 0 where
-  pub one : a ≡ true
-  pub two : b ≡ true
-  pub three : c ≡ true
-
-three-true : (a b c : Bool) → (27 unless a then 27 unless b then 15 unless c then fine) ≡ 0 → ThreeTrue a b c
-three-true true true true p = record { one = refl; two = refl; three = refl }
-three-true false b c p = absurd (omega arith)
-three-true true false c p = absurd (omega arith)
-three-true true true false p = absurd (omega arith)
-
 pub allowed : (b : Blob) (room : ℕ) → putFault b room ≡ 0 → Allowed b room
 unfolding putFault
 allowed b room p =
-    let a : ThreeTrue (eqb (length (b .digits)) 64) (areDigits (b .digits)) (leb (entrySize b) room) = three-true _ _ _ p in
-    record { size = eqb-true _ _ (a .one); hex = a .two; fits = leb-true _ _ (a .three) }
+    let (e1, z1) = passed (eqb (length (b .digits)) 64) 27 _ (omega arith) p in
+    let (e2, z2) = passed (areDigits (b .digits)) 27 _ (omega arith) z1 in
+    let (e3, z3) = passed (leb (entrySize b) room) 15 _ (omega arith) z2 in
+    record { size = eqb-true _ _ e1; hex = e2; fits = leb-true _ _ e3 }
 
 -- ## What the writer answers and leaves
 
@@ -108,8 +100,4 @@ module _ (b : Blob) (buf : List ℕ) where
 
 pub wrote-free : (b : Blob) (room : ℕ) → putOf b room ≡ put.Wrote (entrySize b) → putFault b room ≡ 0
 unfolding putOf
-wrote-free b room e = go (eqb (putFault b room) fine) refl e
-  where
-    go : (t : Bool) → eqb (putFault b room) fine ≡ t → pick t (put.Wrote (entrySize b)) (put.Refused (refusedAt 0 (putFault b room))) ≡ put.Wrote (entrySize b) → putFault b room ≡ 0
-    go true q f = eqb-true _ _ q
-    go false q f = let z = ap isRefused f in absurd (omega arith)
+wrote-free b room e = eqb-true _ _ (passed-on (eqb (putFault b room) fine) _ _ _ (λ q. let z = ap isRefused q in absurd (omega arith)) e .0)

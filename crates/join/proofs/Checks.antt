@@ -9,7 +9,7 @@ use borrow.Author.Tests.{eqb-true, le-leb, leb-true, not-true}
 use Rattle.words.specs.Checks.{pick}
 use Rattle.rules.specs.Rules.{limit, start}
 use Rattle.rules.specs.Verdicts.{refusalAt}
-use Rattle.layout.proofs.Checks.{passed}
+use Rattle.words.proofs.Checks.{passed}
 use Rattle.join.specs.Join.{joinFault, answerBy}
 use Rattle.join.specs.declared.Joined.the-variants.{Wrote, Refused}
 

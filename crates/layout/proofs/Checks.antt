@@ -1,7 +1,7 @@
 -- Lists of checks: all pass exactly if each test holds, because the first that fails gives its own number, which is not 0. Assumes nothing.
 use mathlib.Core.Path.{_≡_, refl}
-use mathlib.Core.Bool.{Bool, true, false, _&&_, _||_}
-use Prim.Native.Nat.{ℕ, zero, suc, _<_}
+use mathlib.Core.Bool.{Bool, true, _&&_, _||_}
+use Prim.Native.Nat.{ℕ, zero, suc}
 use native.Mathlib.Omega.{arith}
 use lib.Dec.{eqb, ltb}
 use borrow.Author.Tests.{eqb-true, lt-ltb, eq-eqb}
@@ -13,11 +13,6 @@ use Rattle.words.proofs.Zeros.{and-left, and-right}
 -- checks that hold
 pub pass3 : (a b c : Bool) (x y z : ℕ) → a ≡ true → b ≡ true → c ≡ true → (x unless a then y unless b then z unless c then fine) ≡ 0
 pass3 a b c x y z e f g = rw (e, f, g)
-
--- a check that was passed, and those after it
-pub passed : (t : Bool) (n later : ℕ) → 0 < n → (n unless t then later) ≡ 0 → (t ≡ true) × (later ≡ 0)
-passed true n later l e = (refl, e)
-passed false n later l e = absurd (omega arith)
 
 -- the test for a tail of zeros
 pub tail-zero : (w : Words) → tailZero w ≡ true → (w .a ≡ 0) × (w .b ≡ 0) × (w .c ≡ 0) × (w .d ≡ 0)

@@ -12,6 +12,7 @@ use borrow.Author.Tests.{ltb-true, eqb-true, lt-ltb}
 use Rattle.words.specs.Checks.{pick}
 use Rattle.words.specs.Record.{IsHash, Whole, tailZero}
 use Rattle.words.specs.declared.Words.{Words}
+use Rattle.words.proofs.Checks.{passed}
 use Rattle.rules.specs.Rules.{bit31, bit30, plainFault, faultOf, kindOf, many, afterVerifications, afterSegments, counts, nothing, countBy, nextOf}
 use Rattle.rules.specs.declared.Place.{Place}
 use Rattle.rules.specs.declared.Kind.{Kind}
@@ -20,7 +21,7 @@ use Rattle.rules.specs.declared.Due.the-variants.{FileHead, Segment, Verificati
 use Rattle.rules.specs.declared.Kind.the-variants as kind
 use Rattle.layout.specs.Layout.{Hash, has, ifAny, members, sumOf, Each, Row, row, segmentRow, verificationRow, metadataRow, SoundSegment, Matched}
 use Rattle.layout.specs.Layout as tree
-use Rattle.layout.proofs.Checks.{passed, tail-zero}
+use Rattle.layout.proofs.Checks.{tail-zero}
 use Rattle.layout.proofs.Entries.{Ended, not-yet, Entry, entries-go, EntriesBack, entries-back}
 use Rattle.layout.proofs.Places.{dueAt, onward, onward-none, less-one}
 use Rattle.layout.proofs.Rows.{Good, row-same, Goes, stay, stepped, goes-from, goes-cons}

@@ -13,6 +13,7 @@ use Rattle.words.specs.Record.{isOnes, Whole, tailZero}
 use Rattle.words.specs.declared.Words.{Words}
 use Rattle.words.proofs.Zeros.{and-left, and-right}
 use Rattle.words.proofs.Records.{false-ones, true-ones}
+use Rattle.words.proofs.Checks.{passed}
 use Rattle.rules.specs.Rules.{limit, bit31, bit30, noOtherBit, furtherRecords, agrees, fits, faultOf, kindOf, counts, nothing, plus, withFile, nextOf}
 use Rattle.rules.specs.declared.Totals.{Totals}
 use Rattle.rules.specs.declared.Place.{Place}
@@ -23,7 +24,7 @@ use Rattle.layout.specs.Layout.{joined, Hash, FileBlock, ifAny, members,
 use Rattle.layout.specs.Layout as tree
 use Rattle.layout.proofs.FileEntries.{segments, VerificationsBack, verifications-back, MetadataBack, metadata-back}
 use Rattle.layout.proofs.FilesForth.{length-file, further}
-use Rattle.layout.proofs.Checks.{passed, tail-zero}
+use Rattle.layout.proofs.Checks.{tail-zero}
 use Rattle.layout.proofs.Flags.{flagsBy, flags-are, AgreeFrom, none-agree, agree-more}
 use Rattle.layout.proofs.Entries.{Ended, not-yet, EntriesBack, entries-back}
 use Rattle.layout.proofs.Places.{dueAt, onward, onward-then, onward-none, pastFiles, intoFile, after-file-head}

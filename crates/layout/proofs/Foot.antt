@@ -16,6 +16,7 @@ use Rattle.words.specs.declared.Words.{Words}
 use Rattle.words.proofs.Numbers.{num-spell, spell-at, part-then}
 use Rattle.words.proofs.Zeros.{and-left, and-right, zeros-part}
 use Rattle.words.proofs.Records.{words-same, spell-words-at, length-footer, footer-words}
+use Rattle.words.proofs.Checks.{passed}
 use Rattle.cut.specs.Format.{settle, run, at}
 use Rattle.cut.proofs.Runs.{run-full}
 use Rattle.rules.specs.Rules.{sizeBy, sizeOf, footerFault, recordOf, nextOf}
@@ -24,7 +25,6 @@ use Rattle.rules.specs.declared.Due.the-variants.{Footer}
 use Rattle.layout.specs.Layout.{Foot, footWords, SoundFoot}
 use Rattle.layout.specs.Scan.{judged, format}
 use Rattle.layout.proofs.Judged.{judge-foot}
-use Rattle.layout.proofs.Checks.{passed}
 
 -- ## The words at 72
 

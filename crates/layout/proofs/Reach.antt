@@ -11,6 +11,7 @@ use Rattle.words.specs.Checks.{pick}
 use Rattle.words.specs.Record.{isOnes, Whole}
 use Rattle.words.specs.Le.{long}
 use Rattle.words.specs.declared.Words.{Words}
+use Rattle.words.proofs.Checks.{passed}
 use Rattle.rules.specs.Held.{in64, heldDue, held}
 use Rattle.rules.specs.Rules.{limit, footerSize, bit31, bit30, noOtherBit, furtherRecords, agrees, fits, bookendFault, fileHeadFault, xorbHeadFault, faultBy, faultOf, many, afterVerifications, afterSegments, chunksFrom, counts, nothing, plus, nextBy, nextOf, start}
 use Rattle.rules.specs.Verdicts.{refused}
@@ -19,7 +20,6 @@ use Rattle.rules.specs.declared.Place.{Place}
 use Rattle.rules.specs.declared.Due.{Due}
 use Rattle.rules.specs.declared.Due.the-variants.{Header, FileHead, Segment, Verification, Metadata, XorbHead, Chunk, Footer, End, Refused}
 use Rattle.layout.specs.Reach.{RoomBy, CountsWithin, Reached}
-use Rattle.layout.proofs.Checks.{passed}
 use Rattle.layout.proofs.Places.{totals-same, pick-by, many-by, pastFiles, pastXorbs, intoFile, intoXorb, after-file-head, after-xorb-head}
 
 -- ## What is due next leaves room

@@ -14,6 +14,7 @@ use Rattle.words.specs.Record.{IsHash, hashAt, sameHash, wordsAt, Whole, spellF
 use Rattle.words.specs.Le.{long}
 use Rattle.words.specs.declared.Words.{Words}
 use Rattle.words.proofs.Records.{hash-same, words-whole}
+use Rattle.words.proofs.Checks.{passed}
 use Rattle.rules.specs.Rules.{limit, sizeBy, sizeOf, faultOf, kindOf, nothing, withFooter, withFile, nextOf, start}
 use Rattle.rules.specs.declared.Place.{Place}
 use Rattle.rules.specs.declared.Due.the-variants.{Header, FileHead, XorbHead, Footer, End}
@@ -23,7 +24,6 @@ use Rattle.layout.specs.Layout.{joined, Hash, Foot, Shard, has, ifAny, E
 use Rattle.layout.proofs.Accepted.{a-footer, no-footer, Tail}
 use Rattle.layout.proofs.XorbsBack.{XorbsBack, xorbs-back}
 use Rattle.layout.proofs.ShardForth.{length-files, length-xorbs, length-of}
-use Rattle.layout.proofs.Checks.{passed}
 use Rattle.layout.proofs.Foot.{footOf, sound-foot, foot-of, foot-back}
 use Rattle.layout.proofs.Entries.{Ended, not-yet}
 use Rattle.layout.proofs.Places.{onward, pastFiles, pastXorbs}

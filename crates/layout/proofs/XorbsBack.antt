@@ -13,6 +13,7 @@ use Rattle.words.specs.Record.{IsHash, isOnes}
 use Rattle.words.specs.declared.Words.{Words}
 use Rattle.words.proofs.Zeros.{and-left, and-right}
 use Rattle.words.proofs.Records.{false-ones}
+use Rattle.words.proofs.Checks.{passed}
 use Rattle.rules.specs.Rules.{limit, fits, faultOf, kindOf, chunksFrom, counts, nothing, plus, nextOf}
 use Rattle.rules.specs.declared.Totals.{Totals}
 use Rattle.rules.specs.declared.Place.{Place}
@@ -22,7 +23,7 @@ use Rattle.rules.specs.Rules as rules
 use Rattle.rules.specs.declared.Kind.the-variants as kind
 use Rattle.layout.specs.Layout.{joined, XorbBlock, Each, Row, row, bytesIn, xorbHeadRow, chunkRows, xorbRows, bookend, SoundChunk, SoundXorb}
 use Rattle.layout.specs.Layout as tree
-use Rattle.layout.proofs.Checks.{passed, or-last, or-none}
+use Rattle.layout.proofs.Checks.{or-last, or-none}
 use Rattle.layout.proofs.XorbsForth.{chunk-next, length-xorb}
 use Rattle.layout.proofs.Entries.{Ended, not-yet}
 use Rattle.layout.proofs.Places.{dueAt, onward, onward-then, onward-none, many-suc, pastXorbs, intoXorb, after-xorb-head}

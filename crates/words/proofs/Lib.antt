@@ -3,3 +3,4 @@ pub mod Stores
 pub mod Zeros
 pub mod Records
 pub mod Parts
+pub mod Checks

@@ -13,6 +13,7 @@ use Rattle.words.specs.Record.{IsHash, sameHash, ones, isOnes, Whole, tailZero}
 use Rattle.words.specs.declared.Words.{Words}
 use Rattle.words.proofs.Zeros.{and-left, and-right}
 use Rattle.words.proofs.Records.{hash-same, true-ones, words-same}
+use Rattle.words.proofs.Checks.{passed}
 use Rattle.rules.specs.Rules.{sizeBy, sizeOf, faultBy, faultOf, fileHeadFault, xorbHeadFault, bookendFault, noOtherBit, kindOf, recordOf}
 use Rattle.rules.specs.Rules as rules
 use Rattle.rules.specs.Kinds.{among, isDue}
@@ -23,7 +24,7 @@ use Rattle.rules.specs.declared.Due.{Due}
 use Rattle.rules.specs.declared.Due.the-variants as due
 use Rattle.writer.specs.Offers.{kindBy, kindOffered, wordsBy, wordsOf, fieldsBy, fieldsOf, offerOf}
 use Rattle.writer.specs.declared.Offer.{Offer}
-use Rattle.layout.proofs.Checks.{passed, tail-zero}
+use Rattle.layout.proofs.Checks.{tail-zero}
 use Rattle.writer.specs.Write.{isHead, isFooter, bytesOf, answerOf}
 use Rattle.writer.specs.declared.Writer.{Writer}
 use Rattle.writer.specs.declared.Answer.the-variants as answer

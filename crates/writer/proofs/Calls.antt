@@ -10,7 +10,7 @@ use lib.ListN.{length, drop, replicate}
 use lib.Seq.{take-append-seam}
 use lib.Dec.{eqb, leb}
 use borrow.Author.Tests.{eqb-true, eqb-false, eq-eqb, ne-eqb, leb-true}
-use Rattle.words.specs.Checks.{pick, _unless_then_}
+use Rattle.words.specs.Checks.{pick}
 use Rattle.words.specs.Le.{puts}
 use Rattle.words.specs.Record.{hashAt, isOnes, spellWords, spellFooter}
 use Rattle.words.proofs.Stores.{puts-eq}
@@ -20,6 +20,7 @@ use Rattle.rules.specs.Verdicts.{refused}
 use Rattle.rules.specs.Kinds.{isDue}
 use Rattle.rules.specs.declared.Place.{Place}
 use Rattle.words.specs.declared.Refusal.{Refusal}
+use Rattle.words.proofs.Checks.{passed-on}
 use Rattle.writer.specs.Offers.{kindOffered, wordsOf}
 use Rattle.writer.specs.declared.Offer.{Offer}
 use Rattle.writer.specs.Write.{isHead, isFooter, refuses, checked, bytesOf, answerOf, nextBy, bufferBy, writtenOf, bufferOf, fresh}
@@ -38,17 +39,16 @@ pub record Passed (w : Writer) (o : Offer) (room n : ℕ) : Type 0 where
   pub fits : sizeOf (w .place) ≤ room
   pub size : sizeOf (w .place) ≡ n
 
-one-passed : (t : Bool) (w : Writer) (k n : ℕ) (later : Answer) → (refuses w k unless t then later) ≡ answer.Wrote n → (t ≡ true) × (later ≡ answer.Wrote n)
-one-passed true w k n later e = (refl, e)
-one-passed false w k n later e = absurd (let z : _≡_ {A = ℕ} 0 1 = cc in omega arith)
+not-refused : (w : Writer) (k n : ℕ) → refuses w k ≡ answer.Wrote n → ⊥
+not-refused w k n e = absurd (let z : _≡_ {A = ℕ} 0 1 = cc in omega arith)
 
 pub taken-passed : (w : Writer) (o : Offer) (room n : ℕ) → answerOf w o room ≡ answer.Wrote n → Passed w o room n
 unfolding answerOf
 taken-passed w o room n e =
-    let (e1, z1) = one-passed (isDue (w .place .due) (kindOffered o)) w _ n _ e in
-    let (e2, z2) = one-passed (not (isHead (kindOffered o) && isOnes (o .hash))) w 8 n _ z1 in
-    let (e3, z3) = one-passed (eqb (checked w o) 0) w _ n _ z2 in
-    let (e4, z4) = one-passed (leb (sizeOf (w .place)) room) w 15 n _ z3 in
+    let (e1, z1) = passed-on (isDue (w .place .due) (kindOffered o)) _ _ _ (not-refused w _ n) e in
+    let (e2, z2) = passed-on (not (isHead (kindOffered o) && isOnes (o .hash))) _ _ _ (not-refused w 8 n) z1 in
+    let (e3, z3) = passed-on (eqb (checked w o) 0) _ _ _ (not-refused w _ n) z2 in
+    let (e4, z4) = passed-on (leb (sizeOf (w .place)) room) _ _ _ (not-refused w 15 n) z3 in
     record { due = e1; not-ones = e2; checks = eqb-true _ _ e3; fits = leb-true _ _ e4; size = cc }
 
 -- ## The buffer
