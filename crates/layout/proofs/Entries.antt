@@ -6,6 +6,7 @@ use Prim.Native.Nat.{ℕ, zero, suc, _*_}
 use native.Mathlib.Omega.{arith}
 use lib.ListN.{length}
 use Rattle.words.specs.declared.Words.{Words}
+use Rattle.words.specs.declared.Tag.{Tag}
 use Rattle.rules.specs.Rules.{sizeBy, sizeOf, many, nothing, nextOf}
 use Rattle.rules.specs.declared.Totals.{Totals}
 use Rattle.rules.specs.declared.Place.{Place}
@@ -19,11 +20,11 @@ abbrev pub Ended : Place → Type 0
 Ended q = sizeOf q ≢ 48
 
 -- rows do not stop where a row is due
-pub not-yet : (tag : List ℕ) (d : Due) (p q : Place) → sizeBy d ≡ 48 → Goes tag (dueAt d p) [] q → Ended q → ⊥
+pub not-yet : (tag : Tag) (d : Due) (p q : Place) → sizeBy d ≡ 48 → Goes tag (dueAt d p) [] q → Ended q → ⊥
 not-yet tag d p q s g e = e (ap sizeOf (sym (stayed tag (dueAt d p) q g)) ∙ s)
 
 -- a kind of entry
-pub record Entry (tag : List ℕ) (A : Type 0) (IsSound : A → Type 0) : Type 0 where
+pub record Entry (tag : Tag) (A : Type 0) (IsSound : A → Type 0) : Type 0 where
   -- what is due for n of them, and after them; nothing on the way changes what is due after them
   pub one : ℕ → Due
   pub after : Place → Due
@@ -40,7 +41,7 @@ pub record Entry (tag : List ℕ) (A : Type 0) (IsSound : A → Type 0) : Type 0
   pub good : (n : ℕ) (p : Place) (x : A) → IsSound x → Good tag (dueAt (one n) p) (row x)
   pub back : (n : ℕ) (p : Place) (r : Row) → Good tag (dueAt (one n) p) r → (x : A) × (r ≡ row x) × IsSound x
 
-module _ {tag : List ℕ} {A : Type 0} {IsSound : A → Type 0} (k : Entry tag A IsSound) where
+module _ {tag : Tag} {A : Type 0} {IsSound : A → Type 0} (k : Entry tag A IsSound) where
   -- sound entries are good
   pub entries-go : (p : Place) (xs : List A) → Each IsSound xs
       → Goes tag (dueAt (many (length xs) (k .one) (k .after p)) p) (map (k .row) xs) (onward (48 * length xs) (k .total xs) (k .after p) p)

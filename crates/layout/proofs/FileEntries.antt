@@ -12,6 +12,7 @@ use borrow.Author.Tests.{ltb-true, eqb-true, lt-ltb}
 use Rattle.words.specs.Checks.{pick}
 use Rattle.words.specs.Record.{IsHash, Whole, tailZero}
 use Rattle.words.specs.declared.Words.{Words}
+use Rattle.words.specs.declared.Tag.{Tag}
 use Rattle.words.proofs.Checks.{passed}
 use Rattle.rules.specs.Rules.{bit31, bit30, plainFault, faultOf, kindOf, many, afterVerifications, afterSegments, counts, nothing, countBy, nextOf}
 use Rattle.rules.specs.declared.Place.{Place}
@@ -28,7 +29,7 @@ use Rattle.layout.proofs.Rows.{Good, row-same, Goes, stay, stepped, goe
 
 -- ## Segments
 
-pub segment-good : (tag : List ℕ) (n : ℕ) (p : Place) (s : tree.Segment) → SoundSegment s → Good tag (dueAt (Segment n) p) (segmentRow s)
+pub segment-good : (tag : Tag) (n : ℕ) (p : Place) (s : tree.Segment) → SoundSegment s → Good tag (dueAt (Segment n) p) (segmentRow s)
 unfolding faultOf kindOf
 segment-good tag n p s h = record {
   size = refl;
@@ -37,7 +38,7 @@ segment-good tag n p s h = record {
   kind = refl;
 }
 
-pub segment-of : (tag : List ℕ) (n : ℕ) (p : Place) (r : Row) → Good tag (dueAt (Segment n) p) r → (s : tree.Segment) × (r ≡ segmentRow s) × SoundSegment s
+pub segment-of : (tag : Tag) (n : ℕ) (p : Place) (r : Row) → Good tag (dueAt (Segment n) p) r → (s : tree.Segment) × (r ≡ segmentRow s) × SoundSegment s
 unfolding faultOf kindOf
 segment-of tag n p r g =
     let w : Words = r .words in
@@ -54,7 +55,7 @@ pub segment-next : (n : ℕ) (p : Place) (w : Words)
 unfolding nextOf
 segment-next n p w = ap (λ (k : ℕ). onward 48 (countBy kind.Segment w) (many k Segment (afterSegments (p .flags) (p .entries))) p) (less-one n)
 
-abbrev pub segments : (tag : List ℕ) → Entry tag tree.Segment SoundSegment
+abbrev pub segments : (tag : Tag) → Entry tag tree.Segment SoundSegment
 segments tag = record {
   one = Segment;
   after = λ p. afterSegments (p .flags) (p .entries);
@@ -82,11 +83,11 @@ plain-of k r w f e =
     let (a, b, c, d) = tail-zero (r .words) e1 in
     (r .words .hash, row-same (r .words .hash) (sym e) a b c d, w .hash)
 
-verification-good : (tag : List ℕ) (n : ℕ) (p : Place) (h : Hash) → IsHash h → Good tag (dueAt (Verification n) p) (verificationRow h)
+verification-good : (tag : Tag) (n : ℕ) (p : Place) (h : Hash) → IsHash h → Good tag (dueAt (Verification n) p) (verificationRow h)
 unfolding faultOf kindOf
 verification-good tag n p h k = record { size = refl; whole = plain-whole h k; fault = refl; kind = refl }
 
-verification-of : (tag : List ℕ) (n : ℕ) (p : Place) (r : Row) → Good tag (dueAt (Verification n) p) r → (h : Hash) × (r ≡ verificationRow h) × IsHash h
+verification-of : (tag : Tag) (n : ℕ) (p : Place) (r : Row) → Good tag (dueAt (Verification n) p) r → (h : Hash) × (r ≡ verificationRow h) × IsHash h
 unfolding faultOf kindOf
 verification-of tag n p r g = plain-of kind.Verification r (g .whole) (g .fault) (g .kind)
 
@@ -95,7 +96,7 @@ verification-next : (n : ℕ) (p : Place) (w : Words)
 unfolding nextOf
 verification-next n p w = ap (λ (k : ℕ). onward 48 nothing (many k Verification (afterVerifications (p .flags))) p) (less-one n)
 
-abbrev verifications : (tag : List ℕ) → Entry tag Hash IsHash
+abbrev verifications : (tag : Tag) → Entry tag Hash IsHash
 verifications tag = record {
   one = Verification;
   after = λ p. afterVerifications (p .flags);
@@ -112,7 +113,7 @@ verifications tag = record {
 }
 
 -- the verifications, if bit 31 says that there are any
-pub verifications-go : (tag : List ℕ) (p : Place) (v : Option (List Hash)) → bit31 (p .flags) ≡ has v → Matched v (p .entries) → Each IsHash (members v)
+pub verifications-go : (tag : Tag) (p : Place) (v : Option (List Hash)) → bit31 (p .flags) ≡ has v → Matched v (p .entries) → Each IsHash (members v)
     → Goes tag (dueAt (afterSegments (p .flags) (p .entries)) p) (map verificationRow (members v)) (onward (48 * length (members v)) nothing (afterVerifications (p .flags)) p)
 verifications-go tag p none e m ks =
     let d : Due = afterVerifications (p .flags) in
@@ -123,7 +124,7 @@ verifications-go tag p (some hs) e m ks =
     (ap (λ (t : Bool). dueAt (pick t (many (p .entries) Verification d) d) p) e ∙ ap (λ (n : ℕ). dueAt (many n Verification d) p) (sym m))
     (entries-go (verifications tag) p hs ks)
 
-pub record VerificationsBack (tag : List ℕ) (p q : Place) (rows : List Row) : Type 0 where
+pub record VerificationsBack (tag : Tag) (p q : Place) (rows : List Row) : Type 0 where
   pub hashes : Option (List Hash)
   pub bit : has hashes ≡ bit31 (p .flags)
   pub matched : Matched hashes (p .entries)
@@ -132,7 +133,7 @@ pub record VerificationsBack (tag : List ℕ) (p q : Place) (rows : List Row) : 
   pub rows-are : rows ≡ map verificationRow (members hashes) ++ rest
   pub goes : Goes tag (onward (48 * length (members hashes)) nothing (afterVerifications (p .flags)) p) rest q
 
-pub verifications-back : (tag : List ℕ) (p q : Place) (rows : List Row) → Ended q → Goes tag (dueAt (afterSegments (p .flags) (p .entries)) p) rows q → VerificationsBack tag p q rows
+pub verifications-back : (tag : Tag) (p q : Place) (rows : List Row) → Ended q → Goes tag (dueAt (afterSegments (p .flags) (p .entries)) p) rows q → VerificationsBack tag p q rows
 verifications-back tag p q rows z t = go (bit31 (p .flags)) refl t
   where
     d : Due
@@ -155,11 +156,11 @@ verifications-back tag p q rows z t = go (bit31 (p .flags)) refl t
 
 -- ## Metadata
 
-metadata-good : (tag : List ℕ) (p : Place) (h : Hash) → IsHash h → Good tag (dueAt Metadata p) (metadataRow h)
+metadata-good : (tag : Tag) (p : Place) (h : Hash) → IsHash h → Good tag (dueAt Metadata p) (metadataRow h)
 unfolding faultOf kindOf
 metadata-good tag p h k = record { size = refl; whole = plain-whole h k; fault = refl; kind = refl }
 
-metadata-of : (tag : List ℕ) (p : Place) (r : Row) → Good tag (dueAt Metadata p) r → (h : Hash) × (r ≡ metadataRow h) × IsHash h
+metadata-of : (tag : Tag) (p : Place) (r : Row) → Good tag (dueAt Metadata p) r → (h : Hash) × (r ≡ metadataRow h) × IsHash h
 unfolding faultOf kindOf
 metadata-of tag p r g = plain-of kind.Metadata r (g .whole) (g .fault) (g .kind)
 
@@ -168,7 +169,7 @@ unfolding nextOf
 metadata-next p w = refl
 
 -- the metadata record, if bit 30 says that there is one
-pub metadata-go : (tag : List ℕ) (p : Place) (m : Option Hash) → bit30 (p .flags) ≡ has m → Each IsHash (ifAny m)
+pub metadata-go : (tag : Tag) (p : Place) (m : Option Hash) → bit30 (p .flags) ≡ has m → Each IsHash (ifAny m)
     → Goes tag (dueAt (afterVerifications (p .flags)) p) (map metadataRow (ifAny m)) (onward (48 * length (ifAny m)) nothing FileHead p)
 metadata-go tag p none e ks =
     goes-from tag _ (dueAt FileHead p) _ [] (ap (λ (t : Bool). dueAt (pick t Metadata FileHead) p) e) (stay tag (onward-none FileHead p))
@@ -176,7 +177,7 @@ metadata-go tag p (some h) e ks =
     goes-from tag _ (dueAt Metadata p) _ (metadataRow h ∷ []) (ap (λ (t : Bool). dueAt (pick t Metadata FileHead) p) e)
     (goes-cons tag _ (onward 48 nothing FileHead p) _ (metadataRow h) [] (metadata-good tag p h (ks .0)) (metadata-next p (metadataRow h .words)) (stay tag refl))
 
-pub record MetadataBack (tag : List ℕ) (p q : Place) (rows : List Row) : Type 0 where
+pub record MetadataBack (tag : Tag) (p q : Place) (rows : List Row) : Type 0 where
   pub hash : Option Hash
   pub bit : has hash ≡ bit30 (p .flags)
   pub sound : Each IsHash (ifAny hash)
@@ -184,7 +185,7 @@ pub record MetadataBack (tag : List ℕ) (p q : Place) (rows : List Row) : Type 
   pub rows-are : rows ≡ map metadataRow (ifAny hash) ++ rest
   pub goes : Goes tag (onward (48 * length (ifAny hash)) nothing FileHead p) rest q
 
-pub metadata-back : (tag : List ℕ) (p q : Place) (rows : List Row) → Ended q → Goes tag (dueAt (afterVerifications (p .flags)) p) rows q → MetadataBack tag p q rows
+pub metadata-back : (tag : Tag) (p q : Place) (rows : List Row) → Ended q → Goes tag (dueAt (afterVerifications (p .flags)) p) rows q → MetadataBack tag p q rows
 metadata-back tag p q rows z t = go (bit30 (p .flags)) refl rows t
   where
     go : (b : Bool) → bit30 (p .flags) ≡ b → (rows : List Row) → Goes tag (dueAt (pick b Metadata FileHead) p) rows q → MetadataBack tag p q rows

@@ -11,6 +11,7 @@ use borrow.Author.Tests.{leb-true, eqb-true}
 use Rattle.words.specs.Checks.{pick}
 use Rattle.words.specs.Record.{isOnes, Whole, tailZero}
 use Rattle.words.specs.declared.Words.{Words}
+use Rattle.words.specs.declared.Tag.{Tag}
 use Rattle.words.proofs.Zeros.{and-left, and-right}
 use Rattle.words.proofs.Records.{false-ones, true-ones}
 use Rattle.words.proofs.Checks.{passed}
@@ -36,7 +37,7 @@ record FileHeadSays (p : Place) (r : Row) : Type 0 where
   agree : agrees p (r .words .a) ≡ true
   room : p .at .0 + 48 + 48 * furtherRecords (r .words .a) (r .words .b) + (96 + rules.footerSize (p .footer)) ≤ limit
 
-file-says : (tag : List ℕ) (p : Place) (r : Row) → isOnes (r .words .hash) ≡ false → Good tag (dueAt FileHead p) r → FileHeadSays p r
+file-says : (tag : Tag) (p : Place) (r : Row) → isOnes (r .words .hash) ≡ false → Good tag (dueAt FileHead p) r → FileHeadSays p r
 unfolding faultOf kindOf
 file-says tag p r n g =
     let w : Words = r .words in
@@ -53,14 +54,14 @@ file-says tag p r n g =
     }
 
 -- the two ways on from a file head
-file-past : (tag : List ℕ) (t : Bool) (p q : Place) (r : Row) (rs : List Row) → isOnes (r .words .hash) ≡ t → Goes tag (nextOf (dueAt FileHead p) (r .words)) rs q
+file-past : (tag : Tag) (t : Bool) (p q : Place) (r : Row) (rs : List Row) → isOnes (r .words .hash) ≡ t → Goes tag (nextOf (dueAt FileHead p) (r .words)) rs q
     → Goes tag (pick t (pastFiles p) (intoFile (r .words .a) (r .words .b) p)) rs q
 unfolding nextOf
 file-past tag t p q r rs n g = goes-from tag _ _ q rs (ap (λ (b : Bool). pick b (pastFiles p) (intoFile (r .words .a) (r .words .b) p)) (sym n) ∙ sym (after-file-head (dueAt FileHead p) (r .words))) g
 
 -- ## One file
 
-record FileBack (tag : List ℕ) (p q : Place) (r : Row) (rs : List Row) : Type 0 where
+record FileBack (tag : Tag) (p q : Place) (r : Row) (rs : List Row) : Type 0 where
   file : FileBlock
   sound : SoundFile file
   bit : verified file ≡ bit31 (r .words .a)
@@ -72,7 +73,7 @@ record FileBack (tag : List ℕ) (p q : Place) (r : Row) (rs : List Row) : Type 
   room : p .at .0 + 48 * length (fileRows file) + 96 + rules.footerSize (p .footer) ≤ limit
   goes : Goes tag (onward (48 * length (fileRows file)) totals FileHead (withFile (r .words .a) (r .words .b) p)) rest q
 
-file-back : (tag : List ℕ) (p q : Place) (r : Row) (rs : List Row) → Ended q → isOnes (r .words .hash) ≡ false → Goes tag (dueAt FileHead p) (r ∷ rs) q → FileBack tag p q r rs
+file-back : (tag : Tag) (p q : Place) (r : Row) (rs : List Row) → Ended q → isOnes (r .words .hash) ≡ false → Goes tag (dueAt FileHead p) (r ∷ rs) q → FileBack tag p q r rs
 unfolding fileRows
 file-back tag p q r rs z n t =
     let (g, t0) = stepped tag (dueAt FileHead p) q r rs t in
@@ -129,7 +130,7 @@ bookend-is r h o f k =
     let (a, b, c, d) = tail-zero (r .words) e1 in
     row-same (r .words .hash) (sym k) a b c d ∙ ap (λ (x : Hash). row kind.Bookend x 0 0 0 0) (true-ones (r .words .hash) (h .hash) o)
 
-first-bookend-of : (tag : List ℕ) (p : Place) (r : Row) → isOnes (r .words .hash) ≡ true → Good tag (dueAt FileHead p) r → r ≡ bookend
+first-bookend-of : (tag : Tag) (p : Place) (r : Row) → isOnes (r .words .hash) ≡ true → Good tag (dueAt FileHead p) r → r ≡ bookend
 unfolding faultOf kindOf
 first-bookend-of tag p r o g = bookend-is r (g .whole) o
     (ap (λ (t : Bool). pick t (rules.bookendFault (r .words)) (rules.fileHeadFault (dueAt FileHead p) (r .words))) (sym o) ∙ g .fault)
@@ -137,7 +138,7 @@ first-bookend-of tag p r o g = bookend-is r (g .whole) o
 
 -- ## All files
 
-pub record FilesBack (tag : List ℕ) (p q : Place) (rows : List Row) : Type 0 where
+pub record FilesBack (tag : Tag) (p q : Place) (rows : List Row) : Type 0 where
   pub files : List FileBlock
   pub sound : Each SoundFile files
   pub agree : AgreeFrom (p .totals .files) (p .flags) files
@@ -149,7 +150,7 @@ pub record FilesBack (tag : List ℕ) (p q : Place) (rows : List Row) : Type 0 w
   pub room : p .at .0 + 48 * length (joined fileRows files) + 96 + rules.footerSize (p .footer) ≤ limit
   pub goes : Goes tag (pastFiles (onward (48 * length (joined fileRows files)) totals FileHead (withFile flags entries p))) rest q
 
-files-more : (tag : List ℕ) (p q : Place) (r : Row) (rs : List Row) (o : FileBack tag p q r rs)
+files-more : (tag : Tag) (p q : Place) (r : Row) (rs : List Row) (o : FileBack tag p q r rs)
     → FilesBack tag (onward (48 * length (fileRows (o .file))) (o .totals) FileHead (withFile (r .words .a) (r .words .b) p)) q (o .rest) → FilesBack tag p q (r ∷ rs)
 files-more tag p q r rs o m =
     let f : FileBlock = o .file in
@@ -180,7 +181,7 @@ file-shorter f r rs rest e =
     omega (arith, length-file f)
 
 -- k is above the number of rows
-pub files-back : (tag : List ℕ) (k : ℕ) (p q : Place) (rows : List Row) → length rows < k → Ended q → p .at .0 + 96 + rules.footerSize (p .footer) ≤ limit
+pub files-back : (tag : Tag) (k : ℕ) (p q : Place) (rows : List Row) → length rows < k → Ended q → p .at .0 + 96 + rules.footerSize (p .footer) ≤ limit
     → Goes tag (dueAt FileHead p) rows q → FilesBack tag p q rows
 files-back tag zero p q rows l z room t = absurd (omega arith)
 files-back tag (suc k) p q [] l z room t = absurd (not-yet tag FileHead p q refl t z)

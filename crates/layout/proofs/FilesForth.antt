@@ -9,6 +9,7 @@ use native.Mathlib.Omega.{arith}
 use lib.ListN.{length, length-append, length-map}
 use lib.Dec.{eqb, lit<}
 use borrow.Author.Tests.{le-leb}
+use Rattle.words.specs.declared.Tag.{Tag}
 use Rattle.words.proofs.Records.{ones-false}
 use Rattle.rules.specs.Rules.{limit, noOtherBit, furtherRecords, agrees, fits, faultOf, kindOf, many, afterVerifications, afterSegments, counts, nothing, withFile, nextOf}
 use Rattle.rules.specs.declared.Totals.{Totals}
@@ -41,7 +42,7 @@ further f m = go (f .verifications) (f .metadata) m
     go (some v) none m = omega (arith, m)
     go (some v) (some u) m = omega (arith, m)
 
-file-good : (tag : List ℕ) (p : Place) (f : FileBlock) → SoundFile f → agrees p (flagsOf f) ≡ true
+file-good : (tag : Tag) (p : Place) (f : FileBlock) → SoundFile f → agrees p (flagsOf f) ≡ true
     → p .at .0 + 48 * length (fileRows f) + 96 + rules.footerSize (p .footer) ≤ limit → Good tag (dueAt FileHead p) (fileHeadRow f)
 unfolding faultOf kindOf
 file-good tag p f h a l = record {
@@ -59,7 +60,7 @@ file-next : (p : Place) (f : FileBlock) → SoundFile f → nextOf (dueAt FileHe
 unfolding nextOf
 file-next p f h = rw (ones-false (f .hash) (h .hash) (h .not-ones))
 
-file-go : (tag : List ℕ) (p : Place) (f : FileBlock) → SoundFile f → agrees p (flagsOf f) ≡ true
+file-go : (tag : Tag) (p : Place) (f : FileBlock) → SoundFile f → agrees p (flagsOf f) ≡ true
     → p .at .0 + 48 * length (fileRows f) + 96 + rules.footerSize (p .footer) ≤ limit
     → Goes tag (dueAt FileHead p) (fileRows f)
     (onward (48 * length (fileRows f)) (counts 1 (length (f .segments)) 0 0 (sumOf (λ g. g .bytes) (f .segments))) FileHead (withFile (flagsOf f) (length (f .segments)) p))
@@ -89,12 +90,12 @@ abbrev pub fileTotals : List FileBlock → Totals
 fileTotals fs = counts (length fs) (sumOf (λ f. length (f .segments)) fs) 0 0 (sumOf (λ f. sumOf (λ g. g .bytes) (f .segments)) fs)
 
 -- the last file's flags and entries are remembered
-pub record FilesGo (tag : List ℕ) (p : Place) (fs : List FileBlock) : Type 0 where
+pub record FilesGo (tag : Tag) (p : Place) (fs : List FileBlock) : Type 0 where
   pub flags : ℕ
   pub entries : ℕ
   pub goes : Goes tag (dueAt FileHead p) (joined fileRows fs) (onward (48 * length (joined fileRows fs)) (fileTotals fs) FileHead (withFile flags entries p))
 
-pub files-go : (tag : List ℕ) (p : Place) (fs : List FileBlock) → Each SoundFile fs → AgreeFrom (p .totals .files) (p .flags) fs
+pub files-go : (tag : Tag) (p : Place) (fs : List FileBlock) → Each SoundFile fs → AgreeFrom (p .totals .files) (p .flags) fs
     → p .at .0 + 48 * length (joined fileRows fs) + 96 + rules.footerSize (p .footer) ≤ limit → FilesGo tag p fs
 files-go tag p [] hs a l = record { flags = p .flags; entries = p .entries; goes = stay tag (onward-none FileHead p) }
 files-go tag p (f ∷ fs) (h, hs) a l =

@@ -13,6 +13,7 @@ use Rattle.words.specs.Checks.{_unless_then_, fine}
 use Rattle.words.specs.Record.{Whole, wordsAt, footerAt, spellHash, spellWords, spellFooter}
 use Rattle.words.specs.Le.{Bytes, leAt, leNum, spell, zerosAt, long}
 use Rattle.words.specs.declared.Words.{Words}
+use Rattle.words.specs.declared.Tag.{Tag}
 use Rattle.words.proofs.Numbers.{num-spell, spell-at, part-then}
 use Rattle.words.proofs.Zeros.{and-left, and-right, zeros-part}
 use Rattle.words.proofs.Records.{words-same, spell-words-at, length-footer, footer-words}
@@ -54,13 +55,13 @@ foot-fine p w lx lh =
     refl refl (eq-eqb _ _ (num-spell 8 (p .offset .0) lx)) (eq-eqb _ _ (num-spell 8 (p .at .0) lh)) refl
 
 -- where a footer is due, its bytes give its record and the end
-pub foot-run : (tag : List ℕ) (p : Place) (w : Words) → p .due ≡ Footer → p .offset .0 < 2 ^ 64 → p .at .0 < 2 ^ 64 → Whole w
+pub foot-run : (tag : Tag) (p : Place) (w : Words) → p .due ≡ Footer → p .offset .0 < 2 ^ 64 → p .at .0 < 2 ^ 64 → Whole w
     → run (format tag) (at p []) (spellFooter (p .offset .0) (p .at .0) w) ≡ record { recs = recordOf p w ∷ []; state = at (nextOf p w) [] }
 foot-run tag p w d lx lh ok =
     let s : List ℕ = spellFooter (p .offset .0) (p .at .0) w in
     let n : sizeOf p ≡ 200 = ap sizeBy d in
     let r : run (format tag) (at p []) s ≡ settle (judged tag p s) = run-full (format tag) p [] s (omega arith) (omega (arith, length-footer (p .offset .0) (p .at .0) w)) in
-    r ∙ ap settle (judge-foot tag p s n) ∙ rw (foot-fine p w lx lh, footer-words (p .offset .0) (p .at .0) w ok)
+    r ∙ ap settle (judge-foot tag p s d) ∙ rw (foot-fine p w lx lh, footer-words (p .offset .0) (p .at .0) w ok)
 
 -- ## Back
 

@@ -2,6 +2,7 @@
 -- because what is due tells rows from footers. Assumes nothing.
 use mathlib.Core.Path.{_≡_, refl, sym, ap, _∙_, subst}
 use mathlib.Core.Logic.{_≢_}
+use mathlib.Core.Bool.{false}
 use mathlib.Core.List.{List, _++_}
 use Prim.Native.Nat.{ℕ, zero, suc, _+_, _<_}
 use native.Mathlib.Omega.{arith}
@@ -10,10 +11,11 @@ use lib.Seq.{take-at, drop-at, getD-drop}
 use Rattle.words.specs.Record.{Whole, wordsAt, footerAt}
 use Rattle.words.specs.Le.{Bytes}
 use Rattle.words.specs.declared.Words.{Words}
+use Rattle.words.specs.declared.Tag.{Tag}
 use Rattle.words.proofs.Numbers.{take-bytes}
 use Rattle.words.proofs.Records.{words-whole}
 use Rattle.cut.specs.Format.{good, bad}
-use Rattle.rules.specs.Rules.{sizeBy, sizeOf, wordsIn, faultIn, footerFault, faultBy, faultOf, kindOf, recordOf, nextOf}
+use Rattle.rules.specs.Rules.{sizeBy, footerDue, sizeOf, wordsIn, faultIn, footerFault, faultBy, faultOf, kindOf, recordOf, nextOf}
 use Rattle.rules.specs.Verdicts.{refused}
 use Rattle.rules.specs.declared.Place.{Place}
 use Rattle.rules.specs.declared.Record.{Record}
@@ -40,20 +42,33 @@ class Footer = a-foot refl
 class End = no-record refl
 class (Refused n) = no-record refl
 
--- what a whole record says, and how it is handed out, where 48 bytes are due and where 200 are
-pub judge-row : (tag : List ℕ) (p : Place) (bs : List ℕ) → sizeOf p ≡ 48 → judged tag p bs ≡ settled (faultOf tag p (wordsAt bs 0)) p (recordOf p (wordsAt bs 0)) (nextOf p (wordsAt bs 0))
-judge-row tag p bs e = rw e
+-- a row is no footer
+pub row-due : (d : Due) → sizeBy d ≡ 48 → footerDue d ≡ false
+row-due Header e = refl
+row-due FileHead e = refl
+row-due (Segment left) e = refl
+row-due (Verification left) e = refl
+row-due Metadata e = refl
+row-due XorbHead e = refl
+row-due (Chunk left sum total) e = refl
+row-due Footer e = absurd (omega arith)
+row-due End e = refl
+row-due (Refused n) e = refl
 
-pub judge-foot : (tag : List ℕ) (p : Place) (bs : List ℕ) → sizeOf p ≡ 200 → judged tag p bs ≡ settled (footerFault p (footerAt bs 0)) p (recordOf p (wordsAt bs 72)) (nextOf p (wordsAt bs 72))
-judge-foot tag p bs e = rw e
+-- what a whole record says, and how it is handed out, where a row is due and where the footer is
+pub judge-row : (tag : Tag) (p : Place) (bs : List ℕ) → sizeOf p ≡ 48 → judged tag p bs ≡ settled (faultOf tag p (wordsAt bs 0)) p (recordOf p (wordsAt bs 0)) (nextOf p (wordsAt bs 0))
+judge-row tag p bs e = rw (row-due (p .due) e)
+
+pub judge-foot : (tag : Tag) (p : Place) (bs : List ℕ) → p .due ≡ Footer → judged tag p bs ≡ settled (footerFault p (footerAt bs 0)) p (recordOf p (wordsAt bs 72)) (nextOf p (wordsAt bs 72))
+judge-foot tag p bs d = rw d
 
 pub row-record : (p : Place) (w : Words) → sizeOf p ≡ 48 → recordOf p w ≡ record { at = p .at; offset = record { 0 = 0 }; words = w; kind = kindOf p w }
 unfolding recordOf
-row-record p w e = rw e
+row-record p w e = rw (row-due (p .due) e)
 
-pub foot-record : (p : Place) (w : Words) → sizeOf p ≡ 200 → recordOf p w ≡ record { at = p .at; offset = p .offset; words = w; kind = kindOf p w }
+pub foot-record : (p : Place) (w : Words) → p .due ≡ Footer → recordOf p w ≡ record { at = p .at; offset = p .offset; words = w; kind = kindOf p w }
 unfolding recordOf
-foot-record p w e = rw e
+foot-record p w d = rw d
 
 -- ## Good or bad
 
@@ -66,18 +81,18 @@ settled-bad zero p x f s e = let z : _≡_ {A = ℕ} 0 1 = cc in absurd (omega a
 settled-bad (suc n) p x f s e = ((λ z. omega arith), cc)
 
 -- a bad record stops with its number
-pub bad-is : (tag : List ℕ) (p f : Place) (bs : List ℕ) → judged tag p bs ≡ bad f → (faultIn tag p bs ≢ 0) × (f ≡ refused (faultIn tag p bs) p)
+pub bad-is : (tag : Tag) (p f : Place) (bs : List ℕ) → judged tag p bs ≡ bad f → (faultIn tag p bs ≢ 0) × (f ≡ refused (faultIn tag p bs) p)
 bad-is tag p f bs e = settled-bad (faultIn tag p bs) p (nextOf p (wordsIn p bs)) f (recordOf p (wordsIn p bs)) e
 
 -- a good record is counted, and leads to the next place
-pub record GoodIs (tag : List ℕ) (p q : Place) (r : Record) (bs : List ℕ) : Type 0 where
+pub record GoodIs (tag : Tag) (p q : Place) (r : Record) (bs : List ℕ) : Type 0 where
   pub words : Words
   pub whole : Bytes bs → Whole words
   pub fault : faultOf tag p words ≡ 0
   pub next : nextOf p words ≡ q
   pub counted : q .totals ≡ withRecord (p .totals) r
 
-pub good-is : (tag : List ℕ) (p q : Place) (r : Record) (bs : List ℕ) → 0 < sizeOf p → judged tag p bs ≡ good q r → GoodIs tag p q r bs
+pub good-is : (tag : Tag) (p q : Place) (r : Record) (bs : List ℕ) → 0 < sizeOf p → judged tag p bs ≡ good q r → GoodIs tag p q r bs
 unfolding nextOf kindOf faultOf recordOf
 good-is tag p q r bs l e = go (class (p .due))
   where
@@ -88,7 +103,7 @@ good-is tag p q r bs l e = go (class (p .due))
         record { words = w; whole = words-whole bs 0; fault = z; next = x; counted = ap (λ (m : Place). m .totals) (sym x) ∙ ap (withRecord (p .totals)) y }
     go (a-foot d) =
         let w : Words = wordsAt bs 72 in
-        let (z, x, y) = settled-good (footerFault p (footerAt bs 0)) p (nextOf p w) q (recordOf p w) r (sym (judge-foot tag p bs (ap sizeBy d)) ∙ e) in
+        let (z, x, y) = settled-good (footerFault p (footerAt bs 0)) p (nextOf p w) q (recordOf p w) r (sym (judge-foot tag p bs d) ∙ e) in
         record { words = w; whole = words-whole bs 72; fault = ap (λ (x : Due). faultBy x tag p w) d; next = x; counted = ap (λ (m : Place). m .totals) (sym x) ∙ ap (withRecord (p .totals)) y }
     go (no-record s) = absurd (omega arith)
 

@@ -11,7 +11,8 @@ use lib.Dec.{eqb}
 use borrow.Author.Tests.{eqb-true, eqb-false}
 use Rattle.words.specs.Checks.{pick}
 use Rattle.words.specs.Le.{Bytes}
-use Rattle.words.specs.Record.{hashAt}
+use Rattle.words.specs.Record.{tagAt}
+use Rattle.words.specs.declared.Tag.{Tag}
 use Rattle.cut.specs.Format.{Run, run, at}
 use Rattle.cut.proofs.Runs.{run-nil}
 use Rattle.rules.specs.Rules.{limit, start, nextOf, nextBy}
@@ -38,13 +39,13 @@ tag-size tag bytes a = go (eqb (length tag) 32) refl
     go false e = absurd (subst (λ (f : Found). IsAccepted (f .verdict)) (bad-tag tag (eqb-false _ _ e) bytes) a)
 
 -- a footer leaves the offset as it is
-foot-keeps : (tag : List ℕ) (q : Place) (x h : ℕ) (o : Option Foot) → q .at .0 ≡ h → q .offset .0 ≡ x → q .due ≡ pick (has o) Footer End → h ≤ limit → x ≤ limit → Each SoundFoot (ifAny o)
-    → placeOf (run (format tag) (at q []) (joined (spellFoot x h) (ifAny o)) .state) .offset .0 ≡ x
+foot-keeps : (four : Tag) (q : Place) (x h : ℕ) (o : Option Foot) → q .at .0 ≡ h → q .offset .0 ≡ x → q .due ≡ pick (has o) Footer End → h ≤ limit → x ≤ limit → Each SoundFoot (ifAny o)
+    → placeOf (run (format four) (at q []) (joined (spellFoot x h) (ifAny o)) .state) .offset .0 ≡ x
 unfolding nextOf
-foot-keeps tag q x h none eh ex d lh lx ok = ap (λ (r : Run Place Record Place). placeOf (r .state) .offset .0) (run-nil (format tag) (at q [])) ∙ ex
-foot-keeps tag q x h (some g) eh ex d lh lx ok =
-    ap (λ (l : List ℕ). placeOf (run (format tag) (at q []) l .state) .offset .0) (append-nil (spellFoot x h g))
-    ∙ rw (← ex, ← eh) (ap (λ (r : Run Place Record Place). placeOf (r .state) .offset .0) (foot-run tag q (footWords g) d (omega arith) (omega arith) (whole-foot g (ok .0)))
+foot-keeps four q x h none eh ex d lh lx ok = ap (λ (r : Run Place Record Place). placeOf (r .state) .offset .0) (run-nil (format four) (at q [])) ∙ ex
+foot-keeps four q x h (some g) eh ex d lh lx ok =
+    ap (λ (l : List ℕ). placeOf (run (format four) (at q []) l .state) .offset .0) (append-nil (spellFoot x h g))
+    ∙ rw (← ex, ← eh) (ap (λ (r : Run Place Record Place). placeOf (r .state) .offset .0) (foot-run four q (footWords g) d (omega arith) (omega arith) (whole-foot g (ok .0)))
     ∙ ap (λ (e : Due). nextBy e q (footWords g) .offset .0) d)
 
 offset-is : (tag bytes : List ℕ) (s : Shard) → length tag ≡ 32 → Bytes tag → Spells tag s bytes → lastPlace tag bytes .offset .0 ≡ xorbOffset s
@@ -53,8 +54,8 @@ offset-is tag bytes s n t x =
     let o : ShardGo tag s = shard-go tag s t (x .sound) in
     let rest : List ℕ = joined (spellFoot (xorbOffset s) (footerOffset s)) (ifAny (s .footer)) in
     ap (λ (r : Run Place Record Place). placeOf (r .state) .offset .0)
-    (scan-starts tag n bytes ∙ ap (run (format (hashAt tag 0)) (at start [])) (sym (x .spelled)) ∙ run-rows (hashAt tag 0) start (o .last) (rowsOf tag s) rest (o .goes))
-    ∙ foot-keeps (hashAt tag 0) (o .last) (xorbOffset s) (footerOffset s) (s .footer) (o .at) (o .offset) (o .due) (omega (arith, x .sound .short)) (omega (arith, x .sound .short)) (x .sound .footer)
+    (scan-starts tag n bytes ∙ ap (run (format (tagAt tag)) (at start [])) (sym (x .spelled)) ∙ run-rows (tagAt tag) start (o .last) (rowsOf tag s) rest (o .goes))
+    ∙ foot-keeps (tagAt tag) (o .last) (xorbOffset s) (footerOffset s) (s .footer) (o .at) (o .offset) (o .due) (omega (arith, x .sound .short)) (omega (arith, x .sound .short)) (x .sound .footer)
 
 -- what is known of a shard from its bytes
 pub record Spelling (tag bytes : List ℕ) (s : Shard) : Type 0 where

@@ -2,7 +2,6 @@
 -- of a field hold every number as it is. Assumes nothing.
 use mathlib.Core.Path.{_≡_, refl, sym, ap, _∙_, subst}
 use mathlib.Core.Bool.{Bool, true, false, _&&_}
-use mathlib.Core.List.{List}
 use Prim.Native.Nat.{ℕ, _+_, _-_, _*_, _^_, _≤_, _<_}
 use native.Mathlib.Omega.{arith}
 use lib.Dec.{eqb, leb, lit<}
@@ -11,6 +10,7 @@ use Rattle.words.specs.Checks.{pick}
 use Rattle.words.specs.Record.{isOnes, Whole}
 use Rattle.words.specs.Le.{long}
 use Rattle.words.specs.declared.Words.{Words}
+use Rattle.words.specs.declared.Tag.{Tag}
 use Rattle.words.proofs.Checks.{passed}
 use Rattle.rules.specs.Held.{in64, heldDue, held}
 use Rattle.rules.specs.Rules.{limit, footerSize, bit31, bit30, noOtherBit, furtherRecords, agrees, fits, bookendFault, fileHeadFault, xorbHeadFault, faultBy, faultOf, many, afterVerifications, afterSegments, chunksFrom, counts, nothing, plus, nextBy, nextOf, start}
@@ -61,7 +61,7 @@ counts-on : {x y : ℕ} {t : Totals} (size : ℕ) (more : Totals) → CountsWith
     → more .bytes ≤ 4294967296 * more .segments → CountsWithin (x + size) y (plus t more)
 counts-on size more c l m = record { records = omega arith; bytes = omega arith; behind = omega arith }
 
-reach-file : (tag : List ℕ) (p : Place) (w : Words) → isOnes (w .hash) ≡ false → faultBy FileHead tag p w ≡ 0 → CountsWithin (p .at .0) (p .offset .0) (p .totals) → Reached (intoFile (w .a) (w .b) p)
+reach-file : (tag : Tag) (p : Place) (w : Words) → isOnes (w .hash) ≡ false → faultBy FileHead tag p w ≡ 0 → CountsWithin (p .at .0) (p .offset .0) (p .totals) → Reached (intoFile (w .a) (w .b) p)
 reach-file tag p w o z c =
     let f : fileHeadFault p w ≡ 0 = ap (λ (t : Bool). pick t (bookendFault w) (fileHeadFault p w)) (sym o) ∙ z in
     let (e1, z1) = passed (noOtherBit (w .a) && eqb (w .c) 0 && eqb (w .d) 0) 7 _ (lit< tt) f in
@@ -70,7 +70,7 @@ reach-file tag p w o z c =
     let l : p .at .0 + 48 + 48 * (w .b + pick (bit31 (w .a)) (w .b) 0 + pick (bit30 (w .a)) 1 0) + (96 + footerSize (p .footer)) ≤ limit = leb-true _ _ e3 in
     record { room = room-segments (w .b) (intoFile (w .a) (w .b) p) (omega arith); counts = counts-on 48 (counts 1 0 0 0 0) c (omega arith) (omega arith) }
 
-reach-xorb : (tag : List ℕ) (p : Place) (w : Words) → Whole w → isOnes (w .hash) ≡ false → faultBy XorbHead tag p w ≡ 0 → CountsWithin (p .at .0) (p .offset .0) (p .totals) → Reached (intoXorb (w .b) (w .c) p)
+reach-xorb : (tag : Tag) (p : Place) (w : Words) → Whole w → isOnes (w .hash) ≡ false → faultBy XorbHead tag p w ≡ 0 → CountsWithin (p .at .0) (p .offset .0) (p .totals) → Reached (intoXorb (w .b) (w .c) p)
 reach-xorb tag p w h o z c =
     let f : xorbHeadFault p w ≡ 0 = ap (λ (t : Bool). pick t (bookendFault w) (xorbHeadFault p w)) (sym o) ∙ z in
     let (e1, z1) = passed (eqb (w .a) 0) 7 _ (lit< tt) f in
@@ -78,7 +78,7 @@ reach-xorb tag p w h o z c =
     let l : p .at .0 + 48 + 48 * w .b + (48 + footerSize (p .footer)) ≤ limit = leb-true _ _ e2 in
     record { room = room-chunks (w .b) 0 (w .c) (intoXorb (w .b) (w .c) p) (omega arith) (h .c) (omega arith); counts = counts-on 48 (counts 0 0 1 0 0) c (omega arith) (omega arith) }
 
-reach-by : (d : Due) (tag : List ℕ) (p : Place) (w : Words) → Whole w → RoomBy d p → CountsWithin (p .at .0) (p .offset .0) (p .totals) → faultBy d tag p w ≡ 0 → Reached (nextBy d p w)
+reach-by : (d : Due) (tag : Tag) (p : Place) (w : Words) → Whole w → RoomBy d p → CountsWithin (p .at .0) (p .offset .0) (p .totals) → faultBy d tag p w ≡ 0 → Reached (nextBy d p w)
 reach-by Header tag p w h r c z =
     let l : footerSize (eqb (long (w .c) (w .d)) 200) ≤ 200 = footer-le (eqb (long (w .c) (w .d)) 200) in
     record { room = omega arith; counts = counts-on 48 nothing c (omega arith) (omega arith) }
@@ -105,13 +105,13 @@ reach-by (Chunk left sum total) tag p w h (l, s, t, r) c z =
     }
 reach-by Footer tag p w h r c z = record { room = omega arith; counts = counts-on 200 nothing c (omega arith) (omega arith) }
 reach-by End tag p w h r c z = record { room = omega arith; counts = counts-on 0 nothing c (omega arith) (omega arith) }
-reach-by (Refused n) tag p w h r c z = record { room = omega arith; counts = counts-on 0 nothing c (omega arith) (omega arith) }
+reach-by (Refused n) tag p w h r c z = absurd (omega (arith, r .0, z))
 
 -- reading begins at a reached place
 pub reached-start : Reached start
 reached-start = record { room = omega arith; counts = record { records = omega arith; bytes = omega arith; behind = omega arith } }
 
-pub reached-next : (tag : List ℕ) (p : Place) (w : Words) → Whole w → Reached p → faultOf tag p w ≡ 0 → Reached (nextOf p w)
+pub reached-next : (tag : Tag) (p : Place) (w : Words) → Whole w → Reached p → faultOf tag p w ≡ 0 → Reached (nextOf p w)
 unfolding nextOf faultOf
 reached-next tag p w h r z = reach-by (p .due) tag p w h (r .room) (r .counts) z
 
@@ -127,14 +127,14 @@ limit-by XorbHead p r = omega arith
 limit-by (Chunk left sum total) p r = omega arith
 limit-by Footer p r = omega arith
 limit-by End p r = r
-limit-by (Refused n) p r = r
+limit-by (Refused n) p r = r .1
 
 -- a reached place is within the limit, and stays reached where reading stops
 pub at-limit : (p : Place) → Reached p → p .at .0 ≤ limit
 at-limit p r = limit-by (p .due) p (r .room)
 
-pub reached-refused : (n : ℕ) (p : Place) → Reached p → Reached (refused n p)
-reached-refused n p r = record { room = at-limit p r; counts = r .counts }
+pub reached-refused : (n : ℕ) (p : Place) → 0 < n → Reached p → Reached (refused n p)
+reached-refused n p l r = record { room = (l, at-limit p r); counts = r .counts }
 
 -- ## Nothing is lost in 64 bits
 

@@ -6,8 +6,9 @@ use Prim.Native.Nat.{ℕ, _+_, _-_, _<_}
 use native.Mathlib.Omega.{arith}
 use lib.ListN.{length, take}
 use borrow.Author.Tests.{eqb-true, eqb-false}
-use Rattle.words.specs.Record.{hashAt, isOnes}
+use Rattle.words.specs.Record.{tagAt, isOnes}
 use Rattle.words.specs.declared.Words.{Words}
+use Rattle.words.specs.declared.Tag.{Tag}
 use Rattle.cut.specs.Fate.{none, Reads, Ending, more}
 use Rattle.cut.specs.Format.{State, Run, run, at, stopped}
 use Rattle.cut.proofs.Runs.{run-stopped}
@@ -60,12 +61,12 @@ live-next Footer p w v = tt
 live-next End p w v = tt
 live-next (Refused n) p w v = v
 
-live-reads : (tag : List ℕ) {p q : Place} {bs : List ℕ} {rs : List Record} → Reads (format tag) p bs rs q → Live (p .due) → Live (q .due)
+live-reads : (four : Tag) {p q : Place} {bs : List ℕ} {rs : List Record} → Reads (format four) p bs rs q → Live (p .due) → Live (q .due)
 unfolding nextOf
-live-reads tag none v = v
-live-reads tag (more {p = p} {q = q} {r = r} {xs = xs} l n j t) v =
-    let g = good-is tag p q r xs l j in
-    live-reads tag t (subst (λ (x : Place). Live (x .due)) (g .next) (live-next (p .due) p (g .words) v))
+live-reads four none v = v
+live-reads four (more {p = p} {q = q} {r = r} {xs = xs} l n j t) v =
+    let g = good-is four p q r xs l j in
+    live-reads four t (subst (λ (x : Place). Live (x .due)) (g .next) (live-next (p .due) p (g .words) v))
 
 live-end : (d : Due) → Live d → sizeBy d ≡ 0 → d ≡ End
 live-end Header v e = absurd (omega arith)
@@ -80,8 +81,8 @@ live-end End v e = refl
 live-end (Refused n) v e = absurd v
 
 -- behind good records nothing is due only at the end
-pub reads-end : (tag : List ℕ) {q : Place} {bs : List ℕ} {rs : List Record} → Reads (format tag) start bs rs q → sizeOf q ≡ 0 → q .due ≡ End
-reads-end tag {q = q} t z = live-end (q .due) (live-reads tag t tt) z
+pub reads-end : (four : Tag) {q : Place} {bs : List ℕ} {rs : List Record} → Reads (format four) start bs rs q → sizeOf q ≡ 0 → q .due ≡ End
+reads-end four {q = q} t z = live-end (q .due) (live-reads four t tt) z
 
 -- ## The verdict
 
@@ -98,16 +99,16 @@ early-verdict Footer p l = refl
 early-verdict End p l = absurd (omega arith)
 early-verdict (Refused n) p l = absurd (omega arith)
 
-ends-by : (tag : List ℕ) (p : Place) (rest : List ℕ) {s : State Place Place} → Live (p .due) → Ending (format tag) p rest s → Ends tag p rest (verdictOf s)
+ends-by : (four : Tag) (p : Place) (rest : List ℕ) {s : State Place Place} → Live (p .due) → Ending (format four) p rest s → Ends four p rest (verdictOf s)
 unfolding verdictAt
-ends-by tag p rest v (fates.early l) = subst (Ends tag p rest) (sym (early-verdict (p .due) p (omega arith))) (early l)
-ends-by tag p rest v (fates.done z e) =
+ends-by four p rest v (fates.early l) = subst (Ends four p rest) (sym (early-verdict (p .due) p (omega arith))) (early l)
+ends-by four p rest v (fates.done z e) =
     let d : p .due ≡ End = live-end (p .due) v z in
-    subst (Ends tag p rest) (ap (λ (x : Due). verdictBy x p) (sym d)) (done d e)
-ends-by tag p rest v (fates.over b bs z e) = over (live-end (p .due) v z) (λ n. let y : b ∷ bs ≡ [] = sym e ∙ n in let x : _≡_ {A = ℕ} 0 1 = cc in omega arith)
-ends-by tag p rest v (fates.faulty f l g j) =
-    let (n, e) = bad-is tag p f (take (sizeOf p) rest) j in
-    subst (λ (x : Place). Ends tag p rest (verdictAt x)) (sym e) (faulty l g n)
+    subst (Ends four p rest) (ap (λ (x : Due). verdictBy x p) (sym d)) (done d e)
+ends-by four p rest v (fates.over b bs z e) = over (live-end (p .due) v z) (λ n. let y : b ∷ bs ≡ [] = sym e ∙ n in let x : _≡_ {A = ℕ} 0 1 = cc in omega arith)
+ends-by four p rest v (fates.faulty f l g j) =
+    let (n, e) = bad-is four p f (take (sizeOf p) rest) j in
+    subst (λ (x : Place). Ends four p rest (verdictAt x)) (sym e) (faulty l g n)
 
 -- a tag of 32 bytes begins at the start, and no other does
 begin-good : (tag : List ℕ) → length tag ≡ 32 → begin tag ≡ at start []
@@ -116,25 +117,25 @@ begin-good tag n = pick-by (λ s. s ≡ at start []) _ _ _ (λ e. refl) (λ e. a
 begin-bad : (tag : List ℕ) → length tag ≢ 32 → begin tag ≡ stopped (refused 2 start)
 begin-bad tag n = pick-by (λ s. s ≡ stopped (refused 2 start)) _ _ _ (λ e. absurd (n (eqb-true _ _ e))) (λ e. refl)
 
-pub scan-starts : (tag : List ℕ) → length tag ≡ 32 → (bytes : List ℕ) → scan tag bytes ≡ run (format (hashAt tag 0)) (at start []) bytes
+pub scan-starts : (tag : List ℕ) → length tag ≡ 32 → (bytes : List ℕ) → scan tag bytes ≡ run (format (tagAt tag)) (at start []) bytes
 unfolding scan
 scan-starts tag n bytes = rw (begin-good tag n)
 
 pub refusals : (tag : List ℕ) → length tag ≡ 32 → (bytes : List ℕ) → FateClaim tag bytes
 unfolding foundIn
 refusals tag n bytes =
-    let f = fate (format (hashAt tag 0)) start bytes in
+    let f = fate (format (tagAt tag)) start bytes in
     let e = sym (scan-starts tag n bytes) in
     record {
       before = f .before;
       rest = f .rest;
       split = f .split;
       place = f .place;
-      reads = subst (λ (r : Run Place Record Place). Reads (format (hashAt tag 0)) start (f .before) (r .recs) (f .place)) e (f .reads);
-      ends = subst (λ (r : Run Place Record Place). Ends (hashAt tag 0) (f .place) (f .rest) (verdictOf (r .state))) e
-          (ends-by (hashAt tag 0) (f .place) (f .rest) (live-reads (hashAt tag 0) (f .reads) tt) (f .ending));
+      reads = subst (λ (r : Run Place Record Place). Reads (format (tagAt tag)) start (f .before) (r .recs) (f .place)) e (f .reads);
+      ends = subst (λ (r : Run Place Record Place). Ends (tagAt tag) (f .place) (f .rest) (verdictOf (r .state))) e
+          (ends-by (tagAt tag) (f .place) (f .rest) (live-reads (tagAt tag) (f .reads) tt) (f .ending));
     }
 
 pub bad-tag : (tag : List ℕ) → length tag ≢ 32 → (bytes : List ℕ) → foundIn tag bytes ≡ tagRefused
 unfolding foundIn scan verdictAt
-bad-tag tag n bytes = rw (begin-bad tag n, run-stopped (format (hashAt tag 0)) (refused 2 start) bytes)
+bad-tag tag n bytes = rw (begin-bad tag n, run-stopped (format (tagAt tag)) (refused 2 start) bytes)

@@ -10,9 +10,10 @@ use lib.ListN.{length}
 use lib.Dec.{eqb, lit<, lit≤}
 use borrow.Author.Tests.{eqb-true}
 use Rattle.words.specs.Checks.{pick}
-use Rattle.words.specs.Record.{IsHash, hashAt, sameHash, wordsAt, Whole, spellFooter}
+use Rattle.words.specs.Record.{IsHash, hashAt, tagAt, sameHash, wordsAt, Whole, spellFooter}
 use Rattle.words.specs.Le.{long}
 use Rattle.words.specs.declared.Words.{Words}
+use Rattle.words.specs.declared.Tag.{Tag}
 use Rattle.words.proofs.Records.{hash-same, words-whole}
 use Rattle.words.proofs.Checks.{passed}
 use Rattle.rules.specs.Rules.{limit, sizeBy, sizeOf, faultOf, kindOf, nothing, withFooter, withFile, nextOf, start}
@@ -38,16 +39,16 @@ header-size c d false e o =
     let x : long c d ≡ 0 = eqb-true _ _ (sym (or-false (eqb (long c d) 0)) ∙ ap (λ (t : Bool). eqb (long c d) 0 || t) (sym e) ∙ o) in
     (omega arith, omega arith)
 
-record HeaderSays (t : Hash) (r : Row) : Type 0 where
+record HeaderSays (four : Tag) (r : Row) : Type 0 where
   footer : Bool
-  is : r ≡ row kind.Header t 2 0 (pick footer 200 0) 0
+  is : r ≡ row kind.Header (four .0) 2 0 (pick footer 200 0) 0
   next : nextOf start (r .words) ≡ onward 48 nothing FileHead (withFooter footer start)
 
-header-says : (t : Hash) (r : Row) → IsHash t → Good t start r → HeaderSays t r
+header-says : (four : Tag) (r : Row) → IsHash (four .0) → Good four start r → HeaderSays four r
 unfolding faultOf kindOf nextOf
-header-says t r h g =
+header-says four r h g =
     let w : Words = r .words in
-    let (e1, z1) = passed (sameHash (w .hash) t) 3 _ (lit< tt) (g .fault) in
+    let (e1, z1) = passed (sameHash (w .hash) (four .0)) 3 _ (lit< tt) (g .fault) in
     let (e2, z2) = passed (eqb (long (w .a) (w .b)) 2) 4 _ (lit< tt) z1 in
     let (e3, z3) = passed (eqb (long (w .c) (w .d)) 0 || eqb (long (w .c) (w .d)) 200) 5 0 (lit< tt) z2 in
     let b : Bool = eqb (long (w .c) (w .d)) 200 in
@@ -55,7 +56,7 @@ header-says t r h g =
     let (c, d) = header-size (w .c) (w .d) b refl e3 in
     record {
       footer = b;
-      is = row-same (w .hash) (sym (g .kind)) (omega arith) (omega arith) c d ∙ ap (λ (x : Hash). row kind.Header x 2 0 (pick b 200 0) 0) (hash-same (w .hash) t (g .whole .hash) h e1);
+      is = row-same (w .hash) (sym (g .kind)) (omega arith) (omega arith) c d ∙ ap (λ (x : Hash). row kind.Header x 2 0 (pick b 200 0) 0) (hash-same (w .hash) (four .0) (g .whole .hash) h e1);
       next = refl;
     }
 
@@ -64,9 +65,9 @@ no-size : (b : Bool) → sizeBy (pick b Footer End) ≡ 48 → ⊥
 no-size true e = omega arith
 no-size false e = omega arith
 
-no-rows : (tag : List ℕ) (p q : Place) (rows : List Row) → Goes tag (pastXorbs p) rows q → (rows ≡ []) × (q ≡ pastXorbs p)
-no-rows tag p q [] t = (refl, sym (stayed tag (pastXorbs p) q t))
-no-rows tag p q (r ∷ rs) t = absurd (no-size (p .footer) (stepped tag (pastXorbs p) q r rs t .0 .size))
+no-rows : (four : Tag) (p q : Place) (rows : List Row) → Goes four (pastXorbs p) rows q → (rows ≡ []) × (q ≡ pastXorbs p)
+no-rows four p q [] t = (refl, sym (stayed four (pastXorbs p) q t))
+no-rows four p q (r ∷ rs) t = absurd (no-size (p .footer) (stepped four (pastXorbs p) q r rs t .0 .size))
 
 record FootIs (b : Bool) (x h : ℕ) (rest : List ℕ) : Type 0 where
   foot : Option Foot
@@ -103,16 +104,16 @@ header-size-room false = lit≤ tt
 abbrev begun : Bool → Place
 begun b = onward 48 nothing FileHead (withFooter b start)
 
-abbrev behindFiles : (t : Hash) (b : Bool) (q : Place) (rs : List Row) → FilesBack t (begun b) q rs → Place
-behindFiles t b q rs of = pastFiles (onward (48 * length (joined fileRows (of .files))) (of .totals) FileHead (withFile (of .flags) (of .entries) (begun b)))
+abbrev behindFiles : (four : Tag) (b : Bool) (q : Place) (rs : List Row) → FilesBack four (begun b) q rs → Place
+behindFiles four b q rs of = pastFiles (onward (48 * length (joined fileRows (of .files))) (of .totals) FileHead (withFile (of .flags) (of .entries) (begun b)))
 
-abbrev behindXorbs : (t : Hash) (p q : Place) (rs : List Row) → XorbsBack t p q rs → Place
-behindXorbs t p q rs ox = pastXorbs (onward (48 * length (joined xorbRows (ox .xorbs))) (ox .totals) XorbHead p)
+abbrev behindXorbs : (four : Tag) (p q : Place) (rs : List Row) → XorbsBack four p q rs → Place
+behindXorbs four p q rs ox = pastXorbs (onward (48 * length (joined xorbRows (ox .xorbs))) (ox .totals) XorbHead p)
 
 -- the parts make the whole
 assemble : (tag : List ℕ) (b : Bool) (q : Place) (r : Row) (rs : List Row) (rest : List ℕ)
     → r ≡ row kind.Header (hashAt tag 0) 2 0 (pick b 200 0) 0
-    → (of : FilesBack (hashAt tag 0) (begun b) q rs) (ox : XorbsBack (hashAt tag 0) (behindFiles (hashAt tag 0) b q rs of) q (of .rest)) → ox .rest ≡ []
+    → (of : FilesBack (tagAt tag) (begun b) q rs) (ox : XorbsBack (tagAt tag) (behindFiles (tagAt tag) b q rs of) q (of .rest)) → ox .rest ≡ []
     → FootIs b (96 + 48 * length (joined fileRows (of .files))) (144 + 48 * length (joined fileRows (of .files)) + 48 * length (joined xorbRows (ox .xorbs))) rest
     → ShardBack tag (r ∷ rs) rest
 unfolding rowsOf fileSection xorbSection footerOffset xorbOffset
@@ -138,24 +139,24 @@ foot-at {b} {x} {h} {x′} {h′} {rest} o e f = subst (λ (u : ℕ). FootIs b x
 
 from-xorbs : (tag : List ℕ) (b : Bool) (q : Place) (r : Row) (rs : List Row) (rest : List ℕ) → Tail q rest
     → r ≡ row kind.Header (hashAt tag 0) 2 0 (pick b 200 0) 0
-    → (of : FilesBack (hashAt tag 0) (begun b) q rs) (ox : XorbsBack (hashAt tag 0) (behindFiles (hashAt tag 0) b q rs of) q (of .rest))
+    → (of : FilesBack (tagAt tag) (begun b) q rs) (ox : XorbsBack (tagAt tag) (behindFiles (tagAt tag) b q rs of) q (of .rest))
     → ShardBack tag (r ∷ rs) rest
 from-xorbs tag b q r rs rest e head of ox =
-    let n = no-rows (hashAt tag 0) (onward (48 * length (joined xorbRows (ox .xorbs))) (ox .totals) XorbHead (behindFiles (hashAt tag 0) b q rs of)) q (ox .rest) (ox .goes) in
-    let p : Place = behindXorbs (hashAt tag 0) (behindFiles (hashAt tag 0) b q rs of) q (of .rest) ox in
+    let n = no-rows (tagAt tag) (onward (48 * length (joined xorbRows (ox .xorbs))) (ox .totals) XorbHead (behindFiles (tagAt tag) b q rs of)) q (ox .rest) (ox .goes) in
+    let p : Place = behindXorbs (tagAt tag) (behindFiles (tagAt tag) b q rs of) q (of .rest) ox in
     let o : FootIs b (p .offset .0) (p .at .0) rest = foot-is b p rest refl (subst (λ (x : Place). Tail x rest) (n .1) e) in
     assemble tag b q r rs rest head of ox (n .0) (foot-at o (omega arith) (omega arith))
 
 from-files : (tag : List ℕ) (b : Bool) (q : Place) (r : Row) (rs : List Row) (rest : List ℕ) → Tail q rest
-    → r ≡ row kind.Header (hashAt tag 0) 2 0 (pick b 200 0) 0 → (of : FilesBack (hashAt tag 0) (begun b) q rs) → ShardBack tag (r ∷ rs) rest
+    → r ≡ row kind.Header (hashAt tag 0) 2 0 (pick b 200 0) 0 → (of : FilesBack (tagAt tag) (begun b) q rs) → ShardBack tag (r ∷ rs) rest
 from-files tag b q r rs rest e head of =
     from-xorbs tag b q r rs rest e head of
-    (xorbs-back (hashAt tag 0) (suc (length (of .rest))) (behindFiles (hashAt tag 0) b q rs of) q (of .rest) (omega arith) (ended q rest e) (omega arith) (of .goes))
+    (xorbs-back (tagAt tag) (suc (length (of .rest))) (behindFiles (tagAt tag) b q rs of) q (of .rest) (omega arith) (ended q rest e) (omega arith) (of .goes))
 
-pub shard-back : (tag : List ℕ) (q : Place) (rows : List Row) (rest : List ℕ) → IsHash (hashAt tag 0) → Goes (hashAt tag 0) start rows q → Tail q rest → ShardBack tag rows rest
-shard-back tag q [] rest h t e = absurd (not-yet (hashAt tag 0) Header start q refl t (ended q rest e))
+pub shard-back : (tag : List ℕ) (q : Place) (rows : List Row) (rest : List ℕ) → IsHash (hashAt tag 0) → Goes (tagAt tag) start rows q → Tail q rest → ShardBack tag rows rest
+shard-back tag q [] rest h t e = absurd (not-yet (tagAt tag) Header start q refl t (ended q rest e))
 shard-back tag q (r ∷ rs) rest h t e =
-    let (g, t0) = stepped (hashAt tag 0) start q r rs t in
-    let says : HeaderSays (hashAt tag 0) r = header-says (hashAt tag 0) r h g in
+    let (g, t0) = stepped (tagAt tag) start q r rs t in
+    let says : HeaderSays (tagAt tag) r = header-says (tagAt tag) r h g in
     from-files tag (says .footer) q r rs rest e (says .is)
-    (files-back (hashAt tag 0) (suc (length rs)) (begun (says .footer)) q rs (omega arith) (ended q rest e) (header-size-room (says .footer)) (goes-from (hashAt tag 0) _ _ q rs (sym (says .next)) t0))
+    (files-back (tagAt tag) (suc (length rs)) (begun (says .footer)) q rs (omega arith) (ended q rest e) (header-size-room (says .footer)) (goes-from (tagAt tag) _ _ q rs (sym (says .next)) t0))

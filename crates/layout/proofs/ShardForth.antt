@@ -8,8 +8,9 @@ use native.Mathlib.Omega.{arith}
 use lib.ListN.{length, length-append}
 use lib.Dec.{lit<}
 use Rattle.words.specs.Checks.{pick}
-use Rattle.words.specs.Record.{IsHash, hashAt, ones}
+use Rattle.words.specs.Record.{IsHash, tagAt, ones}
 use Rattle.words.specs.Le.{Bytes}
+use Rattle.words.specs.declared.Tag.{Tag}
 use Rattle.words.proofs.Records.{hash-is, same-self, ones-is}
 use Rattle.rules.specs.Rules.{limit, faultOf, kindOf, nothing, withFooter, withFile, nextOf, start}
 use Rattle.rules.specs.declared.Place.{Place}
@@ -23,23 +24,23 @@ use Rattle.layout.proofs.XorbsForth.{xorbTotals, xorbs-go}
 use Rattle.layout.proofs.Places.{dueAt, onward, totals-same, pastFiles, pastXorbs}
 use Rattle.layout.proofs.Rows.{Good, Goes, stay, goes-append, goes-cons}
 
-header-good : (h : Hash) (b : Bool) → IsHash h → Good h start (row kind.Header h 2 0 (pick b 200 0) 0)
+header-good : (four : Tag) (b : Bool) → IsHash (four .0) → Good four start (row kind.Header (four .0) 2 0 (pick b 200 0) 0)
 unfolding faultOf kindOf
-header-good h true k = record { size = refl; whole = record { hash = k; a = lit< tt; b = lit< tt; c = lit< tt; d = lit< tt }; fault = rw (same-self h); kind = refl }
-header-good h false k = record { size = refl; whole = record { hash = k; a = lit< tt; b = lit< tt; c = lit< tt; d = lit< tt }; fault = rw (same-self h); kind = refl }
+header-good four true k = record { size = refl; whole = record { hash = k; a = lit< tt; b = lit< tt; c = lit< tt; d = lit< tt }; fault = rw (same-self (four .0)); kind = refl }
+header-good four false k = record { size = refl; whole = record { hash = k; a = lit< tt; b = lit< tt; c = lit< tt; d = lit< tt }; fault = rw (same-self (four .0)); kind = refl }
 
 header-next : (h : Hash) (b : Bool) → nextOf start (row kind.Header h 2 0 (pick b 200 0) 0 .words) ≡ onward 48 nothing FileHead (withFooter b start)
 unfolding nextOf
 header-next h true = refl
 header-next h false = refl
 
-first-bookend : (tag : List ℕ) (p : Place) → Good tag (dueAt FileHead p) bookend
+first-bookend : (four : Tag) (p : Place) → Good four (dueAt FileHead p) bookend
 unfolding faultOf kindOf
-first-bookend tag p = record { size = refl; whole = plain-whole ones ones-is; fault = refl; kind = refl }
+first-bookend four p = record { size = refl; whole = plain-whole ones ones-is; fault = refl; kind = refl }
 
-second-bookend : (tag : List ℕ) (p : Place) → Good tag (dueAt XorbHead p) bookend
+second-bookend : (four : Tag) (p : Place) → Good four (dueAt XorbHead p) bookend
 unfolding faultOf kindOf
-second-bookend tag p = record { size = refl; whole = plain-whole ones ones-is; fault = refl; kind = refl }
+second-bookend four p = record { size = refl; whole = plain-whole ones ones-is; fault = refl; kind = refl }
 
 first-next : (p : Place) → nextOf (dueAt FileHead p) (bookend .words) ≡ pastFiles p
 unfolding nextOf
@@ -67,7 +68,7 @@ length-of s = omega (arith, length-files s, length-xorbs s)
 
 pub record ShardGo (tag : List ℕ) (s : Shard) : Type 0 where
   pub last : Place
-  pub goes : Goes (hashAt tag 0) start (rowsOf tag s) last
+  pub goes : Goes (tagAt tag) start (rowsOf tag s) last
   pub at : last .at .0 ≡ footerOffset s
   pub offset : last .offset .0 ≡ xorbOffset s
   pub totals : last .totals ≡ totalsOf s
@@ -77,24 +78,24 @@ pub record ShardGo (tag : List ℕ) (s : Shard) : Type 0 where
 pub shard-go : (tag : List ℕ) (s : Shard) → Bytes tag → Sound s → ShardGo tag s
 unfolding rowsOf fileSection xorbSection footerOffset xorbOffset totalsOf
 shard-go tag s bs ok =
-    let t : Hash = hashAt tag 0 in
+    let four : Tag = tagAt tag in
     let b : Bool = has (s .footer) in
     let fs : List Row = joined fileRows (s .files) in
     let xs : List Row = joined xorbRows (s .xorbs) in
     let room : 144 + 48 * length fs + 48 * length xs + pick b 200 0 ≤ limit = subst (λ (n : ℕ). n ≤ limit) (length-of s) (ok .short) in
     let p0 : Place = onward 48 nothing FileHead (withFooter b start) in
-    let o : FilesGo t p0 (s .files) = files-go t p0 (s .files) (ok .files) (ok .agree) (omega arith) in
+    let o : FilesGo four p0 (s .files) = files-go four p0 (s .files) (ok .files) (ok .agree) (omega arith) in
     let p1 : Place = onward (48 * length fs) (fileTotals (s .files)) FileHead (withFile (o .flags) (o .entries) p0) in
     let p2 : Place = pastFiles p1 in
     let p3 : Place = onward (48 * length xs) (xorbTotals (s .xorbs)) XorbHead p2 in
     let p4 : Place = pastXorbs p3 in
     record {
       last = p4;
-      goes = goes-cons t start p0 p4 (headerRow tag s) (fs ++ (bookend ∷ []) ++ (xs ++ (bookend ∷ []))) (header-good t b (hash-is tag 0 bs)) (header-next t b)
-          (goes-append t p0 p2 p4 (fs ++ (bookend ∷ [])) (xs ++ (bookend ∷ []))
-          (goes-append t p0 p1 p2 fs (bookend ∷ []) (o .goes) (goes-cons t p1 p2 p2 bookend [] (first-bookend t p1) (first-next p1) (stay t refl)))
-          (goes-append t p2 p3 p4 xs (bookend ∷ []) (xorbs-go t p2 (s .xorbs) (ok .xorbs) (omega arith))
-          (goes-cons t p3 p4 p4 bookend [] (second-bookend t p3) (second-next p3) (stay t refl))));
+      goes = goes-cons four start p0 p4 (headerRow tag s) (fs ++ (bookend ∷ []) ++ (xs ++ (bookend ∷ []))) (header-good four b (hash-is tag 0 bs)) (header-next (four .0) b)
+          (goes-append four p0 p2 p4 (fs ++ (bookend ∷ [])) (xs ++ (bookend ∷ []))
+          (goes-append four p0 p1 p2 fs (bookend ∷ []) (o .goes) (goes-cons four p1 p2 p2 bookend [] (first-bookend four p1) (first-next p1) (stay four refl)))
+          (goes-append four p2 p3 p4 xs (bookend ∷ []) (xorbs-go four p2 (s .xorbs) (ok .xorbs) (omega arith))
+          (goes-cons four p3 p4 p4 bookend [] (second-bookend four p3) (second-next p3) (stay four refl))));
       at = omega (arith, length-files s, length-xorbs s);
       offset = omega (arith, length-files s);
       totals = totals-same (omega arith) (omega arith) (omega arith) (omega arith) (omega arith);

@@ -9,13 +9,14 @@ use native.Mathlib.Omega.{arith}
 use lib.ListN.{length, take, length-append}
 use lib.Seq.{take-all, take-at}
 use Rattle.words.specs.Checks.{pick}
-use Rattle.words.specs.Record.{hashAt, spellHash, spellWords}
+use Rattle.words.specs.Record.{hashAt, tagAt, spellHash, spellWords}
 use Rattle.words.specs.Le.{Bytes, spell}
 use Rattle.words.specs.declared.Words.{Words}
+use Rattle.words.specs.declared.Tag.{Tag}
 use Rattle.words.proofs.Records.{spell-hash-at, hash-is, length-words, length-footer}
 use Rattle.cut.specs.Format.{thenRun, run, at}
 use Rattle.cut.proofs.Runs.{run-nil}
-use Rattle.rules.specs.Rules.{limit, start, nextOf, kindOf, plus, nothing, sizeBy, dueBy, nextBy}
+use Rattle.rules.specs.Rules.{limit, start, nextOf, kindOf, plus, nothing, dueBy, nextBy}
 use Rattle.rules.specs.Verdicts.{verdictBy, verdictAt}
 use Rattle.rules.specs.declared.Totals.{Totals}
 use Rattle.rules.specs.declared.Place.{Place}
@@ -45,27 +46,27 @@ accepted-same : {x y : ℕ} {t u : Totals} {b c : Bool} → x ≡ y → t ≡ u 
 accepted-same p q r = rw (p, q, r)
 
 -- where a footer is due, its bytes give its record, and the end behind it
-foot-found : (tag : List ℕ) (q : Place) (g : Foot) → q .due ≡ Footer → q .offset .0 < 2 ^ 64 → q .at .0 < 2 ^ 64 → SoundFoot g
-    → foundOf (run (format tag) (at q []) (spellFoot (q .offset .0) (q .at .0) g))
+foot-found : (four : Tag) (q : Place) (g : Foot) → q .due ≡ Footer → q .offset .0 < 2 ^ 64 → q .at .0 < 2 ^ 64 → SoundFoot g
+    → foundOf (run (format four) (at q []) (spellFoot (q .offset .0) (q .at .0) g))
     ≡ record { records = footRecord (q .offset .0) (q .at .0) g ∷ []; verdict = verdict.Accepted (record { length = q .at .0 + 200; totals = plus (q .totals) nothing; footer = q .footer }) }
 unfolding verdictAt nextOf kindOf
-foot-found tag q g d lx lh ok =
+foot-found four q g d lx lh ok =
     let w : Words = footWords g in
-    ap foundOf (foot-run tag q w d lx lh (whole-foot g ok))
-    ∙ found-same (ap (λ (r : Record). r ∷ []) (foot-record q w (ap sizeBy d) ∙ rw d)) (ap (λ (e : Due). verdictBy (dueBy e q w) (nextBy e q w)) d)
+    ap foundOf (foot-run four q w d lx lh (whole-foot g ok))
+    ∙ found-same (ap (λ (r : Record). r ∷ []) (foot-record q w d ∙ rw d)) (ap (λ (e : Due). verdictBy (dueBy e q w) (nextBy e q w)) d)
 
 -- what follows the second bookend: nothing, or the footer
-ending : (tag : List ℕ) (q : Place) (x h : ℕ) (o : Option Foot) → q .at .0 ≡ h → q .offset .0 ≡ x → q .due ≡ pick (has o) Footer End → q .footer ≡ has o
+ending : (four : Tag) (q : Place) (x h : ℕ) (o : Option Foot) → q .at .0 ≡ h → q .offset .0 ≡ x → q .due ≡ pick (has o) Footer End → q .footer ≡ has o
     → h ≤ limit → x ≤ limit → Each SoundFoot (ifAny o)
-    → foundOf (run (format tag) (at q []) (joined (spellFoot x h) (ifAny o)))
+    → foundOf (run (format four) (at q []) (joined (spellFoot x h) (ifAny o)))
     ≡ record { records = map (footRecord x h) (ifAny o); verdict = verdict.Accepted (record { length = h + pick (has o) 200 0; totals = q .totals; footer = has o }) }
 unfolding verdictAt
-ending tag q x h none eh ex d f lh lx ok =
-    ap foundOf (run-nil (format tag) (at q []))
+ending four q x h none eh ex d f lh lx ok =
+    ap foundOf (run-nil (format four) (at q []))
     ∙ found-same refl (ap (λ (e : Due). verdictBy e q) d ∙ accepted-same (omega arith) refl f)
-ending tag q x h (some g) eh ex d f lh lx ok =
-    ap (λ (l : List ℕ). foundOf (run (format tag) (at q []) l)) (append-nil (spellFoot x h g))
-    ∙ rw (← ex, ← eh) (foot-found tag q g d (omega arith) (omega arith) (ok .0) ∙ found-same refl (accepted-same refl (plus-nothing (q .totals)) f))
+ending four q x h (some g) eh ex d f lh lx ok =
+    ap (λ (l : List ℕ). foundOf (run (format four) (at q []) l)) (append-nil (spellFoot x h g))
+    ∙ rw (← ex, ← eh) (foot-found four q g d (omega arith) (omega arith) (ok .0) ∙ found-same refl (accepted-same refl (plus-nothing (q .totals)) f))
 
 xorb-le : (s : Shard) → xorbOffset s ≤ footerOffset s
 unfolding footerOffset
@@ -109,15 +110,15 @@ module _ (tag : List ℕ) (tag-size : length tag ≡ 32) (tag-bytes : Bytes tag)
   written : (s : Shard) → Sound s → foundIn tag (bytesOf tag s) ≡ meaningOf tag s
   unfolding foundIn bytesOf recordsOf lengthOf
   written s ok =
-      let t : List ℕ = hashAt tag 0 in
+      let four : Tag = tagAt tag in
       let x : ℕ = xorbOffset s in
       let h : ℕ = footerOffset s in
       let o : ShardGo tag s = shard-go tag s tag-bytes ok in
       let lx : x ≤ h = xorb-le s in
-      let r : run (format t) (at start []) (spellRows (rowsOf tag s) ++ joined (spellFoot x h) (ifAny (s .footer)))
-      ≡ thenRun (placed 0 (rowsOf tag s)) (run (format t) (at (o .last) []) (joined (spellFoot x h) (ifAny (s .footer))))
-      = run-rows t start (o .last) (rowsOf tag s) (joined (spellFoot x h) (ifAny (s .footer))) (o .goes) in
-      let e = ending t (o .last) x h (s .footer) (o .at) (o .offset) (o .due) (o .footer) (omega arith) (omega arith) (ok .footer) in
+      let r : run (format four) (at start []) (spellRows (rowsOf tag s) ++ joined (spellFoot x h) (ifAny (s .footer)))
+      ≡ thenRun (placed 0 (rowsOf tag s)) (run (format four) (at (o .last) []) (joined (spellFoot x h) (ifAny (s .footer))))
+      = run-rows four start (o .last) (rowsOf tag s) (joined (spellFoot x h) (ifAny (s .footer))) (o .goes) in
+      let e = ending four (o .last) x h (s .footer) (o .at) (o .offset) (o .due) (o .footer) (omega arith) (omega arith) (ok .footer) in
       ap foundOf (scan-starts tag tag-size (spellRows (rowsOf tag s) ++ joined (spellFoot x h) (ifAny (s .footer))) ∙ r)
       ∙ found-same (ap (λ (f : Found). placed 0 (rowsOf tag s) ++ f .records) e) (ap (λ (f : Found). f .verdict) e ∙ accepted-same refl (o .totals) refl)
 
@@ -125,8 +126,8 @@ module _ (tag : List ℕ) (tag-size : length tag ≡ 32) (tag-bytes : Bytes tag)
   read : (bytes : List ℕ) → Bytes bytes → IsAccepted (foundIn tag bytes .verdict) → (s : Shard) × Sound s × (bytesOf tag s ≡ bytes)
   unfolding bytesOf
   read bytes b a =
-      let t : List ℕ = hashAt tag 0 in
-      let o : Out t start bytes = out tag bytes (refusals tag tag-size bytes) b a in
+      let four : Tag = tagAt tag in
+      let o : Out four start bytes = out tag bytes (refusals tag tag-size bytes) b a in
       let s : ShardBack tag (o .rows) (o .rest) = shard-back tag (o .last) (o .rows) (o .rest) (hash-is tag 0 tag-bytes) (o .goes) (o .tail) in
       (s .shard, s .sound, ap₂ (λ (x : List Row) (y : List ℕ). spellRows x ++ y) (s .rows-are) (s .rest-is) ∙ sym (o .bytes))
 

@@ -11,6 +11,7 @@ use borrow.Author.Tests.{leb-true, eqb-true}
 use Rattle.words.specs.Checks.{pick}
 use Rattle.words.specs.Record.{IsHash, isOnes}
 use Rattle.words.specs.declared.Words.{Words}
+use Rattle.words.specs.declared.Tag.{Tag}
 use Rattle.words.proofs.Zeros.{and-left, and-right}
 use Rattle.words.proofs.Records.{false-ones}
 use Rattle.words.proofs.Checks.{passed}
@@ -37,7 +38,7 @@ record ChunkSays (n sum total : ℕ) (r : Row) : Type 0 where
   sound : IsHash (r .words .hash)
   last : n ≡ 0 → sum + r .words .b ≡ total
 
-chunk-says : (tag : List ℕ) (n sum total : ℕ) (p : Place) (r : Row) → Good tag (dueAt (Chunk (suc n) sum total) p) r → ChunkSays n sum total r
+chunk-says : (tag : Tag) (n sum total : ℕ) (p : Place) (r : Row) → Good tag (dueAt (Chunk (suc n) sum total) p) r → ChunkSays n sum total r
 unfolding faultOf kindOf
 chunk-says tag n sum total p r g =
     let w : Words = r .words in
@@ -51,7 +52,7 @@ chunk-says tag n sum total p r g =
       last = or-last n (sum + w .b) total e4;
     }
 
-record ChunksBack (tag : List ℕ) (n sum total : ℕ) (p q : Place) (rows : List Row) : Type 0 where
+record ChunksBack (tag : Tag) (n sum total : ℕ) (p q : Place) (rows : List Row) : Type 0 where
   chunks : List tree.Chunk
   count : length chunks ≡ n
   sound : Each SoundChunk chunks
@@ -61,7 +62,7 @@ record ChunksBack (tag : List ℕ) (n sum total : ℕ) (p q : Place) (rows : Lis
   rows-are : rows ≡ chunkRows sum chunks ++ rest
   goes : Goes tag (onward (48 * n) totals XorbHead p) rest q
 
-chunks-back : (tag : List ℕ) (n sum total : ℕ) (p q : Place) (rows : List Row) → Ended q → (n ≡ 0 → sum ≡ total)
+chunks-back : (tag : Tag) (n sum total : ℕ) (p q : Place) (rows : List Row) → Ended q → (n ≡ 0 → sum ≡ total)
     → Goes tag (dueAt (chunksFrom n sum total) p) rows q → ChunksBack tag n sum total p q rows
 chunks-back tag zero sum total p q rows z e t =
     let e0 : sum ≡ total = e refl in
@@ -103,7 +104,7 @@ record XorbHeadSays (p : Place) (r : Row) : Type 0 where
   room : p .at .0 + 48 + 48 * r .words .b + (48 + rules.footerSize (p .footer)) ≤ limit
   none : r .words .b ≡ 0 → r .words .c ≡ 0
 
-xorb-says : (tag : List ℕ) (p : Place) (r : Row) → isOnes (r .words .hash) ≡ false → Good tag (dueAt XorbHead p) r → XorbHeadSays p r
+xorb-says : (tag : Tag) (p : Place) (r : Row) → isOnes (r .words .hash) ≡ false → Good tag (dueAt XorbHead p) r → XorbHeadSays p r
 unfolding faultOf kindOf
 xorb-says tag p r n g =
     let w : Words = r .words in
@@ -119,12 +120,12 @@ xorb-says tag p r n g =
     }
 
 -- the two ways on from a xorb head
-xorb-past : (tag : List ℕ) (t : Bool) (p q : Place) (r : Row) (rs : List Row) → isOnes (r .words .hash) ≡ t → Goes tag (nextOf (dueAt XorbHead p) (r .words)) rs q
+xorb-past : (tag : Tag) (t : Bool) (p q : Place) (r : Row) (rs : List Row) → isOnes (r .words .hash) ≡ t → Goes tag (nextOf (dueAt XorbHead p) (r .words)) rs q
     → Goes tag (pick t (pastXorbs p) (intoXorb (r .words .b) (r .words .c) p)) rs q
 unfolding nextOf
 xorb-past tag t p q r rs n g = goes-from tag _ _ q rs (ap (λ (b : Bool). pick b (pastXorbs p) (intoXorb (r .words .b) (r .words .c) p)) (sym n) ∙ sym (after-xorb-head (dueAt XorbHead p) (r .words))) g
 
-record XorbBack (tag : List ℕ) (p q : Place) (r : Row) (rs : List Row) : Type 0 where
+record XorbBack (tag : Tag) (p q : Place) (r : Row) (rs : List Row) : Type 0 where
   xorb : XorbBlock
   sound : SoundXorb xorb
   totals : Totals
@@ -133,7 +134,7 @@ record XorbBack (tag : List ℕ) (p q : Place) (r : Row) (rs : List Row) : Type 
   room : p .at .0 + 48 * length (xorbRows xorb) + 48 + rules.footerSize (p .footer) ≤ limit
   goes : Goes tag (onward (48 * length (xorbRows xorb)) totals XorbHead p) rest q
 
-xorb-back : (tag : List ℕ) (p q : Place) (r : Row) (rs : List Row) → Ended q → isOnes (r .words .hash) ≡ false → Goes tag (dueAt XorbHead p) (r ∷ rs) q → XorbBack tag p q r rs
+xorb-back : (tag : Tag) (p q : Place) (r : Row) (rs : List Row) → Ended q → isOnes (r .words .hash) ≡ false → Goes tag (dueAt XorbHead p) (r ∷ rs) q → XorbBack tag p q r rs
 unfolding xorbRows
 xorb-back tag p q r rs z n t =
     let (g, t0) = stepped tag (dueAt XorbHead p) q r rs t in
@@ -161,7 +162,7 @@ xorb-back tag p q r rs z n t =
 
 -- ## The section's bookend
 
-second-bookend-of : (tag : List ℕ) (p : Place) (r : Row) → isOnes (r .words .hash) ≡ true → Good tag (dueAt XorbHead p) r → r ≡ bookend
+second-bookend-of : (tag : Tag) (p : Place) (r : Row) → isOnes (r .words .hash) ≡ true → Good tag (dueAt XorbHead p) r → r ≡ bookend
 unfolding faultOf kindOf
 second-bookend-of tag p r o g = bookend-is r (g .whole) o
     (ap (λ (t : Bool). pick t (rules.bookendFault (r .words)) (rules.xorbHeadFault (dueAt XorbHead p) (r .words))) (sym o) ∙ g .fault)
@@ -169,7 +170,7 @@ second-bookend-of tag p r o g = bookend-is r (g .whole) o
 
 -- ## All xorbs
 
-pub record XorbsBack (tag : List ℕ) (p q : Place) (rows : List Row) : Type 0 where
+pub record XorbsBack (tag : Tag) (p q : Place) (rows : List Row) : Type 0 where
   pub xorbs : List XorbBlock
   pub sound : Each SoundXorb xorbs
   pub totals : Totals
@@ -178,7 +179,7 @@ pub record XorbsBack (tag : List ℕ) (p q : Place) (rows : List Row) : Type 0 w
   pub room : p .at .0 + 48 * length (joined xorbRows xorbs) + 48 + rules.footerSize (p .footer) ≤ limit
   pub goes : Goes tag (pastXorbs (onward (48 * length (joined xorbRows xorbs)) totals XorbHead p)) rest q
 
-xorbs-more : (tag : List ℕ) (p q : Place) (r : Row) (rs : List Row) (o : XorbBack tag p q r rs)
+xorbs-more : (tag : Tag) (p q : Place) (r : Row) (rs : List Row) (o : XorbBack tag p q r rs)
     → XorbsBack tag (onward (48 * length (xorbRows (o .xorb))) (o .totals) XorbHead p) q (o .rest) → XorbsBack tag p q (r ∷ rs)
 xorbs-more tag p q r rs o m =
     let x : XorbBlock = o .xorb in
@@ -201,7 +202,7 @@ xorb-shorter x r rs rest e =
     omega (arith, length-xorb x)
 
 -- k is above the number of rows
-pub xorbs-back : (tag : List ℕ) (k : ℕ) (p q : Place) (rows : List Row) → length rows < k → Ended q → p .at .0 + 48 + rules.footerSize (p .footer) ≤ limit
+pub xorbs-back : (tag : Tag) (k : ℕ) (p q : Place) (rows : List Row) → length rows < k → Ended q → p .at .0 + 48 + rules.footerSize (p .footer) ≤ limit
     → Goes tag (dueAt XorbHead p) rows q → XorbsBack tag p q rows
 xorbs-back tag zero p q rows l z room t = absurd (omega arith)
 xorbs-back tag (suc k) p q [] l z room t = absurd (not-yet tag XorbHead p q refl t z)

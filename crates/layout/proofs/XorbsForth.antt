@@ -9,6 +9,7 @@ use lib.ListN.{length, length-append}
 use lib.Dec.{eqb, leb, ltb, lit<}
 use borrow.Author.Tests.{eq-eqb, le-leb}
 use Rattle.words.specs.declared.Words.{Words}
+use Rattle.words.specs.declared.Tag.{Tag}
 use Rattle.words.proofs.Records.{ones-false}
 use Rattle.rules.specs.Rules.{limit, fits, faultOf, kindOf, chunksFrom, counts, nextOf}
 use Rattle.rules.specs.declared.Totals.{Totals}
@@ -23,7 +24,7 @@ use Rattle.layout.proofs.Checks.{pass3, last-or, none-or}
 use Rattle.layout.proofs.Places.{dueAt, onward, onward-then, onward-none, many-suc, less-one, intoXorb}
 use Rattle.layout.proofs.Rows.{Good, Goes, stay, goes-append, goes-from, goes-to, goes-cons}
 
-chunk-good : (tag : List ℕ) (p : Place) (c : tree.Chunk) (n sum total : ℕ) → SoundChunk c → sum + c .bytes ≤ total → (n ≡ 0 → sum + c .bytes ≡ total) → total < 2 ^ 32
+chunk-good : (tag : Tag) (p : Place) (c : tree.Chunk) (n sum total : ℕ) → SoundChunk c → sum + c .bytes ≤ total → (n ≡ 0 → sum + c .bytes ≡ total) → total < 2 ^ 32
     → Good tag (dueAt (Chunk (suc n) sum total) p) (row kind.Chunk (c .hash) sum (c .bytes) 0 0)
 unfolding faultOf kindOf
 chunk-good tag p c n sum total h l e t = record {
@@ -43,7 +44,7 @@ no-bytes : (cs : List tree.Chunk) → length cs ≡ 0 → bytesIn cs ≡ 0
 no-bytes [] e = refl
 no-bytes (c ∷ cs) e = absurd (omega arith)
 
-chunks-go : (tag : List ℕ) (p : Place) (cs : List tree.Chunk) (sum total : ℕ) → Each SoundChunk cs → sum + bytesIn cs ≡ total → total < 2 ^ 32
+chunks-go : (tag : Tag) (p : Place) (cs : List tree.Chunk) (sum total : ℕ) → Each SoundChunk cs → sum + bytesIn cs ≡ total → total < 2 ^ 32
     → Goes tag (dueAt (chunksFrom (length cs) sum total) p) (chunkRows sum cs) (onward (48 * length cs) (counts 0 0 0 (length cs) 0) XorbHead p)
 chunks-go tag p [] sum total hs e t = stay tag (onward-none XorbHead p)
 chunks-go tag p (c ∷ cs) sum total (h, hs) e t =
@@ -63,7 +64,7 @@ pub length-xorb : (x : XorbBlock) → length (xorbRows x) ≡ suc (length (x .ch
 unfolding xorbRows
 length-xorb x = ap suc (length-chunks 0 (x .chunks))
 
-xorb-good : (tag : List ℕ) (p : Place) (x : XorbBlock) → SoundXorb x
+xorb-good : (tag : Tag) (p : Place) (x : XorbBlock) → SoundXorb x
     → p .at .0 + 48 * length (xorbRows x) + 48 + rules.footerSize (p .footer) ≤ limit → Good tag (dueAt XorbHead p) (xorbHeadRow x)
 unfolding faultOf kindOf
 xorb-good tag p x h l = record {
@@ -81,7 +82,7 @@ xorb-next : (p : Place) (x : XorbBlock) → SoundXorb x → nextOf (dueAt XorbHe
 unfolding nextOf
 xorb-next p x h = rw (ones-false (x .hash) (h .hash) (h .not-ones))
 
-xorb-go : (tag : List ℕ) (p : Place) (x : XorbBlock) → SoundXorb x
+xorb-go : (tag : Tag) (p : Place) (x : XorbBlock) → SoundXorb x
     → p .at .0 + 48 * length (xorbRows x) + 48 + rules.footerSize (p .footer) ≤ limit
     → Goes tag (dueAt XorbHead p) (xorbRows x) (onward (48 * length (xorbRows x)) (counts 0 0 1 (length (x .chunks)) 0) XorbHead p)
 unfolding xorbRows
@@ -96,7 +97,7 @@ xorb-go tag p x h l =
 abbrev pub xorbTotals : List XorbBlock → Totals
 xorbTotals xs = counts 0 0 (length xs) (sumOf (λ x. length (x .chunks)) xs) 0
 
-pub xorbs-go : (tag : List ℕ) (p : Place) (xs : List XorbBlock) → Each SoundXorb xs
+pub xorbs-go : (tag : Tag) (p : Place) (xs : List XorbBlock) → Each SoundXorb xs
     → p .at .0 + 48 * length (joined xorbRows xs) + 48 + rules.footerSize (p .footer) ≤ limit
     → Goes tag (dueAt XorbHead p) (joined xorbRows xs) (onward (48 * length (joined xorbRows xs)) (xorbTotals xs) XorbHead p)
 xorbs-go tag p [] hs l = stay tag (onward-none XorbHead p)

@@ -25,7 +25,8 @@ RoomBy XorbHead p = p .at .0 + 48 + footerSize (p .footer) ≤ limit
 RoomBy (Chunk left sum total) p = (0 < left) × (sum ≤ total) × (total < 2 ^ 32) × (p .at .0 + 48 * left + 48 + footerSize (p .footer) ≤ limit)
 RoomBy Footer p = p .at .0 + 200 ≤ limit
 RoomBy End p = p .at .0 ≤ limit
-RoomBy (Refused number) p = p .at .0 ≤ limit
+-- a refusal has a number
+RoomBy (Refused number) p = (0 < number) × (p .at .0 ≤ limit)
 
 -- each record counted took 48 bytes, each segment says less than 2 ^ 32, and the xorb offset is a position passed
 pub record CountsWithin (at offset : ℕ) (t : Totals) : Type 0 where

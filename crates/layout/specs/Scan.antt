@@ -4,7 +4,7 @@ use mathlib.Core.List.{List, []}
 use lib.Dec.{eqb}
 use lib.ListN.{length}
 use Rattle.words.specs.Checks.{pick}
-use Rattle.words.specs.Record.{hashAt}
+use Rattle.words.specs.Record.{tagAt}
 use Rattle.cut.specs.Format.{Format, Judged, good, bad, State, at, stopped, Run, run}
 use Rattle.rules.specs.Rules.{sizeOf, wordsIn, faultIn, recordOf, nextOf, start, countBy, plus}
 use Rattle.rules.specs.Verdicts.{refused, verdictAt}
@@ -12,6 +12,7 @@ use Rattle.rules.specs.declared.Totals.{Totals}
 use Rattle.rules.specs.declared.Place.{Place}
 use Rattle.rules.specs.declared.Record.{Record}
 use Rattle.words.specs.declared.Refusal.{Refusal}
+use Rattle.words.specs.declared.Tag.{Tag}
 use Rattle.rules.specs.declared.Summary.{Summary}
 use Rattle.rules.specs.declared.Verdict.{Verdict}
 use Rattle.rules.specs.declared.Verdict.the-variants as verdict
@@ -24,21 +25,21 @@ settled zero p r q = good q r
 settled (suc n) p r q = bad (refused (suc n) p)
 
 -- the bytes of the record due
-abbrev pub judged : List ℕ → Place → List ℕ → Judged Place Record Place
-judged tag p bytes = settled (faultIn tag p bytes) p (recordOf p (wordsIn p bytes)) (nextOf p (wordsIn p bytes))
+abbrev pub judged : Tag → Place → List ℕ → Judged Place Record Place
+judged four p bytes = settled (faultIn four p bytes) p (recordOf p (wordsIn p bytes)) (nextOf p (wordsIn p bytes))
 
 -- ## Any bytes
 
--- the format, for a tag of four numbers: a record is judged once all its bytes are there, and a byte after the end is refused with 14
-abbrev pub format : List ℕ → Format Place Record Place
-format tag = record { due = sizeOf; late = refused 14; judge = judged tag }
+-- the format, for a tag as four numbers: a record is judged once all its bytes are there, and a byte after the end is refused with 14
+abbrev pub format : Tag → Format Place Record Place
+format four = record { due = sizeOf; late = refused 14; judge = judged four }
 
 -- a tag that is not 32 bytes is refused with 2, before all others
 abbrev pub begin : List ℕ → State Place Place
 begin tag = pick (eqb (length tag) 32) (at start []) (stopped (refused 2 start))
 
 unfoldable pub scan : List ℕ → List ℕ → Run Place Record Place
-scan tag bytes = run (format (hashAt tag 0)) (begin tag) bytes
+scan tag bytes = run (format (tagAt tag)) (begin tag) bytes
 
 -- done after the end; the refusal, if there was one; else 1 at the record due
 abbrev pub verdictOf : State Place Place → Verdict

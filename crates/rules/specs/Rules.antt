@@ -13,11 +13,12 @@
 --   chunk         byte start         unpacked bytes      reserved           reserved
 use Prim.Native.Nat.{ℕ, _+_, _-_, _*_, _/_, _%_}
 use mathlib.Core.List.{List}
-use mathlib.Core.Bool.{Bool, false, _&&_, _||_}
+use mathlib.Core.Bool.{Bool, true, false, _&&_, _||_}
 use lib.Dec.{eqb, leb, ltb}
 use Rattle.words.specs.Le.{long}
 use Rattle.words.specs.Record.{sameHash, isOnes, tailZero, wordsAt, footerAt}
 use Rattle.words.specs.declared.Words.{Words}
+use Rattle.words.specs.declared.Tag.{Tag}
 use Rattle.words.specs.declared.Footer as foot
 use Rattle.words.specs.Checks.{pick, fine, _unless_then_}
 use Rattle.rules.specs.declared.Totals.{Totals}
@@ -46,6 +47,19 @@ sizeBy (Chunk left sum total) = 48
 sizeBy Footer = 200
 sizeBy End = 0
 sizeBy (Refused number) = 0
+
+-- whether the footer is due
+abbrev pub footerDue : Due → Bool
+footerDue Header = false
+footerDue FileHead = false
+footerDue (Segment left) = false
+footerDue (Verification left) = false
+footerDue Metadata = false
+footerDue XorbHead = false
+footerDue (Chunk left sum total) = false
+footerDue Footer = true
+footerDue End = false
+footerDue (Refused number) = false
 
 abbrev pub sizeOf : Place → ℕ
 sizeOf p = sizeBy (p .due)
@@ -84,10 +98,10 @@ fits p m rest = leb (p + 48 + 48 * m + rest) limit
 -- ## Checks
 -- Each record's, in the order in which they are asked: the number of the refusal, unless what must hold does.
 
-abbrev pub headerFault : List ℕ → Words → ℕ
+abbrev pub headerFault : Tag → Words → ℕ
 headerFault tag w =
     -- the tag
-    3 unless sameHash (w .hash) tag then
+    3 unless sameHash (w .hash) (tag .0) then
     -- the version is 2
     4 unless eqb (long (w .a) (w .b)) 2 then
     -- the footer size is 0 or 200
@@ -156,7 +170,7 @@ footerFault p f =
     7 unless f .clean then fine
 
 -- the refusal number of a record of 48 bytes, 0 for none; a hash of all ones marks a bookend only where a head is expected
-abbrev pub faultBy : Due → List ℕ → Place → Words → ℕ
+abbrev pub faultBy : Due → Tag → Place → Words → ℕ
 faultBy Header tag p w = headerFault tag w
 faultBy FileHead tag p w = pick (isOnes (w .hash)) (bookendFault w) (fileHeadFault p w)
 faultBy (Segment left) tag p w = segmentFault w
@@ -170,18 +184,18 @@ faultBy Footer tag p w = fine
 faultBy End tag p w = 14
 faultBy (Refused number) tag p w = number
 
-unfoldable pub faultOf : List ℕ → Place → Words → ℕ
+unfoldable pub faultOf : Tag → Place → Words → ℕ
 faultOf tag p w = faultBy (p .due) tag p w
 
 -- ## A whole record, from its bytes
 
 -- its numbers: of a footer those at 72, where key, created and expiry stand
 abbrev pub wordsIn : Place → List ℕ → Words
-wordsIn p bytes = pick (eqb (sizeOf p) 200) (wordsAt bytes 72) (wordsAt bytes 0)
+wordsIn p bytes = pick (footerDue (p .due)) (wordsAt bytes 72) (wordsAt bytes 0)
 
 -- the number of its refusal, 0 for none
-abbrev pub faultIn : List ℕ → Place → List ℕ → ℕ
-faultIn tag p bytes = pick (eqb (sizeOf p) 200) (footerFault p (footerAt bytes 0)) (faultOf tag p (wordsAt bytes 0))
+abbrev pub faultIn : Tag → Place → List ℕ → ℕ
+faultIn tag p bytes = pick (footerDue (p .due)) (footerFault p (footerAt bytes 0)) (faultOf tag p (wordsAt bytes 0))
 
 -- ## Kinds
 
@@ -205,7 +219,7 @@ kindOf p w = kindBy (p .due) w
 
 -- a record as it is handed out: with its kind and position, and a footer with the xorb offset
 unfoldable pub recordOf : Place → Words → Record
-recordOf p w = record { at = p .at; offset = pick (eqb (sizeOf p) 200) (p .offset) (record { 0 = 0 }); words = w; kind = kindOf p w }
+recordOf p w = record { at = p .at; offset = pick (footerDue (p .due)) (p .offset) (record { 0 = 0 }); words = w; kind = kindOf p w }
 
 -- ## Order
 -- Header; file blocks; bookend; xorb blocks; bookend; footer if the header's footer size is 200, none if it is 0.

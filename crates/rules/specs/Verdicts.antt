@@ -3,6 +3,7 @@ use Prim.Native.Nat.{ℕ}
 use mathlib.Core.Bool.{false}
 use Rattle.rules.specs.Rules.{movedTo, nothing}
 use Rattle.rules.specs.declared.Place.{Place}
+use Rattle.words.specs.Refusals.{noRefusal}
 use Rattle.words.specs.declared.Refusal.{Refusal}
 use Rattle.rules.specs.declared.Summary.{Summary}
 use Rattle.rules.specs.declared.Numbers.{Numbers}
@@ -41,5 +42,5 @@ verdictAt p = verdictBy (p .due) p
 
 -- an accepted shard has no number and no position; a refusal has zeros for the rest
 abbrev pub numbersOf : Verdict → Numbers
-numbersOf (verdict.Accepted summary) = record { refusal = record { at = record { 0 = 0 }; number = 0 }; summary = summary }
+numbersOf (verdict.Accepted summary) = record { refusal = noRefusal; summary = summary }
 numbersOf (verdict.Refused refusal) = record { refusal = refusal; summary = record { length = 0; totals = nothing; footer = false } }

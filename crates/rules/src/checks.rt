@@ -4,6 +4,7 @@ use crate::Due;
 use crate::Place;
 use words::Footer;
 use words::Refusal;
+use words::Tag;
 use words::Words;
 use words::hash::is_ones;
 use words::hash::same_hash;
@@ -116,15 +117,16 @@ fn fills(left: u32, sum: u64, bytes: u64, total: u64) -> bool
     }
 }
 
-fn header_fault(tag: [u64; 4], w: Words) -> u32
+fn header_fault(tag: Tag, w: Words) -> u32
     ensures { λ r. ⌜ r ≡ headerFault tag w ⌝ }
 {
     let h = w.hash;
+    let four = tag.0;
     let version = joined(w.a, w.b);
     let size = joined(w.c, w.d);
     first3(
         Refusal::TAG,
-        same_hash(h, tag),
+        same_hash(h, four),
         Refusal::VERSION,
         version == 2,
         Refusal::FOOTER_SIZE,
@@ -222,7 +224,7 @@ impl Place {
     }
 
     // The number of the refusal for a record of 48 bytes, 0 if it is good.
-    pub fn fault(self, tag: [u64; 4], w: Words) -> u32
+    pub fn fault(self, tag: Tag, w: Words) -> u32
         ensures { λ r. ⌜ r ≡ faultOf tag self w ⌝ }
     {
         let due = self.due;

@@ -50,6 +50,8 @@ pub enum Due {
     Refused(u32),
 }
 
+// How many there were of each, and the sum of the segments' bytes. They cross to a host as they are.
+#[repr(C)]
 pub struct Totals {
     pub files: u64,
     pub segments: u64,

@@ -13,10 +13,9 @@ use words::hash::is_ones;
 use words::number::joined;
 ghost use mathlib.Core.Path.{_≡_};
 ghost use Prim.Native.Nat.{_+_, _-_};
-ghost use lib.Dec.{eqb};
 ghost use Rattle.words.specs.Record.{isOnes};
 ghost use Rattle.words.specs.Checks.{pick};
-ghost use Rattle.rules.specs.Rules.{sizeBy, sizeOf, kindOf, recordOf, nextOf, many, afterSegments, afterVerifications, chunksFrom, dueBy, counts, plus, countBy, knownBy, withFooter, withOffset, withFile};
+ghost use Rattle.rules.specs.Rules.{sizeBy, footerDue, kindOf, recordOf, nextOf, many, afterSegments, afterVerifications, chunksFrom, dueBy, counts, plus, countBy, knownBy, withFooter, withOffset, withFile};
 ghost use Rattle.rules.specs.Held.{in64, held, heldTotals, heldDue};
 ghost use Rattle.rules.specs.declared.Kind.the-variants as kind;
 ghost use Rattle.rules.specs.declared.Due.the-variants as due;
@@ -181,6 +180,24 @@ impl Due {
             Due::Refused(_) => 0,
         }
     }
+
+    // Whether the footer is due.
+    pub fn footer_due(self) -> bool
+        ensures { λ r. ⌜ r ≡ footerDue self ⌝ }
+    {
+        match self {
+            Due::Header => false,
+            Due::FileHead => false,
+            Due::Segment(_) => false,
+            Due::Verification(_) => false,
+            Due::Metadata => false,
+            Due::XorbHead => false,
+            Due::Chunk(_, _, _) => false,
+            Due::Footer => true,
+            Due::End => false,
+            Due::Refused(_) => false,
+        }
+    }
 }
 
 impl Place {
@@ -207,10 +224,10 @@ impl Place {
 
     // The xorb offset where a footer is due, else 0.
     fn shown_offset(self) -> Position
-        ensures { λ r. ⌜ r ≡ pick (eqb (sizeOf self) 200) (self .offset) (record { 0 = 0 }) ⌝ }
+        ensures { λ r. ⌜ r ≡ pick (footerDue (self .due)) (self .offset) (record { 0 = 0 }) ⌝ }
     {
         let due = self.due;
-        if due.size() == Footer::SIZE {
+        if due.footer_due() {
             let offset = self.offset;
             offset
         } else {

@@ -83,10 +83,7 @@ impl Verdict {
     {
         match self {
             Verdict::Accepted(summary) => Numbers {
-                refusal: Refusal {
-                    at: Position(0),
-                    number: 0,
-                },
+                refusal: Refusal::NONE,
                 summary: summary,
             },
             Verdict::Refused(refusal) => Numbers {

@@ -8,6 +8,7 @@ use lib.Dec.{eqb}
 use Rattle.words.specs.Le.{leAt, spell, zerosAt}
 use Rattle.words.specs.declared.Words.{Words}
 use Rattle.words.specs.declared.Footer.{Footer}
+use Rattle.words.specs.declared.Tag.{Tag}
 
 -- ## Hashes: four numbers of 64 bits
 
@@ -32,6 +33,16 @@ ones = replicate 4 18446744073709551615
 
 abbrev pub isOnes : List ℕ → Bool
 isOnes h = sameHash h ones
+
+-- ## The tag of a shard, as four numbers
+
+-- that of 32 bytes
+abbrev pub tagAt : List ℕ → Tag
+tagAt bytes = record { 0 = hashAt bytes 0 }
+
+-- where there is none
+abbrev pub noTag : Tag
+noTag = record { 0 = replicate 4 0 }
 
 -- ## Records of 48 bytes: a hash, and four numbers of 32 bits
 

@@ -1,11 +1,12 @@
 // Hashes, by value as four numbers of 64 bits.
+use crate::Tag;
 use crate::number::put_u64;
 use crate::number::u64_at;
 ghost use mathlib.Core.Path.{_≡_};
 ghost use Prim.Native.Nat.{_+_, _≤_};
 ghost use lib.ListN.{length};
 ghost use Rattle.words.specs.Le.{puts};
-ghost use Rattle.words.specs.Record.{hashAt, spellHash, sameHash, isOnes};
+ghost use Rattle.words.specs.Record.{hashAt, spellHash, sameHash, isOnes, tagAt};
 
 pub fn hash_at(s: &[u8], at: usize) -> [u64; 4]
     requires { ⌜ at + 32 ≤ length (now s) ⌝ }
@@ -39,4 +40,13 @@ pub fn is_ones(h: [u64; 4]) -> bool
     ensures { λ r. ⌜ r ≡ isOnes h ⌝ }
 {
     same_hash(h, [18446744073709551615; 4])
+}
+
+impl Tag {
+    pub fn read(bytes: &[u8]) -> Tag
+        requires { ⌜ 32 ≤ length (now bytes) ⌝ }
+        ensures { λ r. ⌜ r ≡ tagAt (now (bytes .entry)) ⌝ }
+    {
+        Tag(hash_at(bytes, 0))
+    }
 }

@@ -1,4 +1,4 @@
-// Positions and refusals, which all of the library has; and numbers, hashes and whole records in lent bytes: read, written and compared, and parts of one slice put into
+// Positions, tags and refusals, which all of the library has; and numbers, hashes and whole records in lent bytes: read, written and compared, and parts of one slice put into
 // another. An inner crate: a function that takes a position asks that what it reads or writes lies within the slice. What is read and written is said in specs/Le (numbers) and specs/Record (hashes and records).
 pub mod foot;
 pub mod hash;
@@ -45,10 +45,26 @@ impl Footer {
 // Where a byte is, counted from the start of what was read or is written.
 pub struct Position(pub u64);
 
+// The tag of a shard, as four numbers.
+pub struct Tag(pub [u64; 4]);
+
+impl Tag {
+    // The tag of a reader or a writer that was begun with a bad one.
+    pub const NONE: Tag = Tag([0; 4]);
+}
+
 // Why bytes, or what was asked, are refused, and where.
 pub struct Refusal {
     pub at: Position,
     pub number: u32,
+}
+
+impl Refusal {
+    // Nothing was refused.
+    pub const NONE: Refusal = Refusal {
+        at: Position(0),
+        number: 0,
+    };
 }
 
 // The numbers of refusal, those of the shard and, from 24 to 29, those of the blob files.
@@ -104,4 +120,7 @@ impl Refusal {
     pub const BLOB_DATA: u32 = 29;
 
     pub const FOOTER: u32 = 30;
+
+    // A state of other making, which no call gave out.
+    pub const STATE: u32 = 255;
 }
