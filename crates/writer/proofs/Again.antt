@@ -11,6 +11,7 @@ use Rattle.words.specs.Checks.{pick}
 use Rattle.words.specs.Le.{long}
 use Rattle.words.specs.Record.{IsHash, sameHash, ones, isOnes, Whole, tailZero}
 use Rattle.words.specs.declared.Words.{Words}
+use Rattle.words.specs.declared.Tag.{Tag}
 use Rattle.words.proofs.Zeros.{and-left, and-right}
 use Rattle.words.proofs.Records.{hash-same, true-ones, words-same}
 use Rattle.words.proofs.Checks.{passed}
@@ -100,13 +101,13 @@ bookend-again w h o z = plain-again w (sym (true-ones (w .hash) (h .hash) o)) (p
 short-again : (w : Words) → w .c ≡ 0 → w .d ≡ 0 → _≡_ {A = Words} (record { hash = w .hash; a = w .a; b = w .b; c = 0; d = 0 }) w
 short-again w c d = words-same refl refl refl (sym c) (sym d)
 
-words-by : (d : Due) (tag : List ℕ) (p : Place) (w : Words) → IsHash tag → Whole w → 0 < sizeBy d → faultBy d tag p w ≡ 0
+words-by : (d : Due) (tag : Tag) (p : Place) (w : Words) → IsHash (tag .0) → Whole w → 0 < sizeBy d → faultBy d tag p w ≡ 0
     → wordsBy (fieldsBy (rules.kindBy d w) w) tag (w .hash) ≡ w
 words-by due.Header tag p w t h l z =
-    let (e1, z1) = passed (sameHash (w .hash) tag) 3 _ (lit< tt) z in
+    let (e1, z1) = passed (sameHash (w .hash) (tag .0)) 3 _ (lit< tt) z in
     let (e2, z2) = passed (eqb (long (w .a) (w .b)) 2) 4 _ (lit< tt) z1 in
     let v : long (w .a) (w .b) ≡ 2 = eqb-true _ _ e2 in
-    words-same (sym (hash-same (w .hash) tag (h .hash) t e1)) (omega arith) (omega arith) (omega arith) (omega arith)
+    words-same (sym (hash-same (w .hash) (tag .0) (h .hash) t e1)) (omega arith) (omega arith) (omega arith) (omega arith)
 words-by due.FileHead tag p w t h l z = go (isOnes (w .hash)) refl z
   where
     go : (b : Bool) → isOnes (w .hash) ≡ b → pick b (bookendFault w) (fileHeadFault p w) ≡ 0 → wordsBy (fieldsBy (pick b kind.Bookend kind.FileHead) w) tag (w .hash) ≡ w
@@ -136,7 +137,7 @@ answers : (w : Writer) (o : Offer) (room : ℕ) → isDue (w .place .due) (kindO
 unfolding answerOf
 answers w o room a b c l = rw (a, b, eq-eqb _ 0 c, le-leb (sizeOf (w .place)) room l)
 
-module _ (w : Writer) (ws : Words) (tag-is : IsHash (w .tag)) (good : GoodWords (w .tag) (w .place) ws) where
+module _ (w : Writer) (ws : Words) (tag-is : IsHash (w .tag .0)) (good : GoodWords (w .tag) (w .place) ws) where
   abbrev again : Offer
   again = offerOf (recordOf (w .place) ws)
 

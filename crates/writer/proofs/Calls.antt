@@ -6,13 +6,13 @@ use mathlib.Core.Bool.{Bool, true, false, _&&_, not}
 use mathlib.Core.List.{List, [], _∷_, _++_}
 use Prim.Native.Nat.{ℕ, _≤_, _+_}
 use native.Mathlib.Omega.{arith}
-use lib.ListN.{length, drop, replicate}
+use lib.ListN.{length, drop}
 use lib.Seq.{take-append-seam}
 use lib.Dec.{eqb, leb}
 use borrow.Author.Tests.{eqb-true, eqb-false, eq-eqb, ne-eqb, leb-true}
 use Rattle.words.specs.Checks.{pick}
 use Rattle.words.specs.Le.{puts}
-use Rattle.words.specs.Record.{hashAt, isOnes, spellWords, spellFooter}
+use Rattle.words.specs.Record.{tagAt, noTag, isOnes, spellWords, spellFooter}
 use Rattle.words.proofs.Stores.{puts-eq}
 use Rattle.words.proofs.Records.{length-words, length-footer}
 use Rattle.rules.specs.Rules.{sizeOf, recordOf, start}
@@ -20,6 +20,7 @@ use Rattle.rules.specs.Verdicts.{refused}
 use Rattle.rules.specs.Kinds.{isDue}
 use Rattle.rules.specs.declared.Place.{Place}
 use Rattle.words.specs.declared.Refusal.{Refusal}
+use Rattle.words.specs.declared.Tag.{Tag}
 use Rattle.words.proofs.Checks.{passed-on}
 use Rattle.writer.specs.Offers.{kindOffered, wordsOf}
 use Rattle.writer.specs.declared.Offer.{Offer}
@@ -123,13 +124,13 @@ by-tag {P} tag f g = go (eqb (length tag) 32) refl
     go false e = g (eqb-false _ _ e)
 
 -- a writer with this tag at this place
-abbrev pub stands : List ℕ → Place → Writer
-stands tag p = record { tag = tag; place = p }
+abbrev pub stands : Tag → Place → Writer
+stands four p = record { tag = four; place = p }
 
-pub fresh-good : (tag : List ℕ) → length tag ≡ 32 → fresh tag ≡ stands (hashAt tag 0) start
+pub fresh-good : (tag : List ℕ) → length tag ≡ 32 → fresh tag ≡ stands (tagAt tag) start
 unfolding fresh
 fresh-good tag n = rw (eq-eqb (length tag) 32 n)
 
-pub fresh-bad : (tag : List ℕ) → length tag ≢ 32 → fresh tag ≡ stands (replicate 4 0) (refused 2 start)
+pub fresh-bad : (tag : List ℕ) → length tag ≢ 32 → fresh tag ≡ stands noTag (refused 2 start)
 unfolding fresh
 fresh-bad tag n = rw (ne-eqb (length tag) 32 n)

@@ -13,9 +13,11 @@ use Rattle.writer.specs.Offers.{wordsOf, fieldsBy, fieldsOf, offerOf}
 use Rattle.layout.proofs.Reach.{exact}
 use Rattle.writer.specs.Write.{answerOf, bytesOf, writtenOf, bufferOf, nextBy, fresh}
 use Rattle.writer.specs.Writings.{Writing, written, RefusedChangesNothing, KeepsLength, NeverWraps, OffersBack}
+use Rattle.writer.specs.declared.Offer.{Offer}
+use Rattle.writer.specs.declared.Fields.{Fields}
 use Rattle.writer.specs.declared.Answer.{Answer}
 use Rattle.writer.specs.declared.Answer.the-variants as answer
-use Rattle.writer.proofs.Made.{made-kind, fields-back}
+use Rattle.writer.proofs.Made.{made-kind, fields-back, hash-back}
 use Rattle.writer.proofs.Calls.{taken-passed, put-start, put-kept, by-tag}
 use Rattle.writer.proofs.ReadAfterWrite.{written-good, written-bad}
 
@@ -36,9 +38,13 @@ never-wraps tag b calls i = by-tag tag
     (λ n. exact (written (fresh tag) calls .writer .place) (written-good tag calls n b i .reached))
     (λ n. let s = ap (λ (x : Writing). x .writer .place) (written-bad tag calls n) in ap held s ∙ sym s)
 
+offer-same : {h h′ : List ℕ} {f f′ : Fields} → h ≡ h′ → f ≡ f′ → _≡_ {A = Offer} (record { hash = h; fields = f }) (record { hash = h′; fields = f′ })
+offer-same p q = rw (p, q)
+
 pub offers-back : OffersBack
 unfolding offerOf fieldsOf recordOf wordsOf kindOf
 offers-back w o room size e =
     let ok = taken-passed w o room size e in
-    ap (λ (k : Kind). fieldsBy k (wordsOf (w .tag) o)) (made-kind (w .place .due) (o .fields) (w .tag) (o .hash) (ok .due) (ok .not-ones))
-    ∙ fields-back (o .fields) (w .tag) (o .hash)
+    offer-same (hash-back (o .fields) (w .tag) (o .hash))
+    (ap (λ (k : Kind). fieldsBy k (wordsOf (w .tag) o)) (made-kind (w .place .due) (o .fields) (w .tag) (o .hash) (ok .due) (ok .not-ones))
+    ∙ fields-back (o .fields) (w .tag) (o .hash))

@@ -6,10 +6,10 @@ use mathlib.Core.Bool.{Bool, true, false}
 use mathlib.Core.List.{List, [], _∷_}
 use Prim.Native.Nat.{ℕ, _<_}
 use native.Mathlib.Omega.{arith}
-use lib.ListN.{length, replicate}
+use lib.ListN.{length}
 use Rattle.words.specs.Checks.{pick}
 use Rattle.words.specs.Le.{Bytes}
-use Rattle.words.specs.Record.{IsHash, hashAt}
+use Rattle.words.specs.Record.{IsHash, tagAt, noTag}
 use Rattle.words.specs.declared.Words.{Words}
 use Rattle.words.proofs.Records.{hash-is}
 use Rattle.cut.specs.Format.{at, run}
@@ -36,7 +36,7 @@ use Rattle.writer.proofs.Spelled.{bytes-due, GoodWords, reads-good}
 -- ## One record taken
 
 -- its words are good
-good-due : (w : Writer) (o : Offer) (room n : ℕ) → IsHash (w .tag) → InRange o → Passed w o room n → GoodWords (w .tag) (w .place) (wordsOf (w .tag) o)
+good-due : (w : Writer) (o : Offer) (room n : ℕ) → IsHash (w .tag .0) → InRange o → Passed w o room n → GoodWords (w .tag) (w .place) (wordsOf (w .tag) o)
 good-due w o room n t i ok = record { due = go (isFooter (kindOffered o)) (due-size (w .place .due) (kindOffered o) (ok .due)); whole = whole-of (w .tag) o t i; fault = ok .checks }
   where
     go : (b : Bool) {n : ℕ} → pick b 200 48 ≡ n → 0 < n
@@ -50,8 +50,8 @@ pub record ReadsBack (w : Writer) (x : Writing) : Type 0 where
   pub reads : run (format (w .tag)) (at (w .place) []) (x .bytes) ≡ record { recs = x .records; state = at (x .writer .place) [] }
   pub reached : Reached (x .writer .place)
 
-reads-cons : (w : Writer) (c : Call) (cs : List Call) → IsHash (w .tag) → Reached (w .place) → InRange (c .offer)
-    → ((v : Writer) → IsHash (v .tag) → Reached (v .place) → ReadsBack v (written v cs)) → ReadsBack w (written w (c ∷ cs))
+reads-cons : (w : Writer) (c : Call) (cs : List Call) → IsHash (w .tag .0) → Reached (w .place) → InRange (c .offer)
+    → ((v : Writer) → IsHash (v .tag .0) → Reached (v .place) → ReadsBack v (written v cs)) → ReadsBack w (written w (c ∷ cs))
 reads-cons w c cs t r i later = go (answerOf w (c .offer) (length (c .buffer))) refl
   where
     go : (a : Answer) → answerOf w (c .offer) (length (c .buffer)) ≡ a → ReadsBack w (written w (c ∷ cs))
@@ -68,7 +68,7 @@ reads-cons w c cs t r i later = go (answerOf w (c .offer) (length (c .buffer))) 
         rw (written-cons, wrote-once w c n e, same, bytes-due w (c .offer) (ok .due))
         (record { reads = reads-good (w .tag) (w .place) ws (written v cs .bytes) r g ∙ rw (b .reads); reached = b .reached })
 
-reads-back : (cs : List Call) (w : Writer) → IsHash (w .tag) → Reached (w .place) → InRanges cs → ReadsBack w (written w cs)
+pub reads-back : (cs : List Call) (w : Writer) → IsHash (w .tag .0) → Reached (w .place) → InRanges cs → ReadsBack w (written w cs)
 reads-back [] w t r e = rw (written-nil w) (record { reads = run-nil (format (w .tag)) (at (w .place) []); reached = r })
 reads-back (c ∷ cs) w t r (i, e) = reads-cons w c cs t r i (λ v u q. reads-back cs v u q e)
 
@@ -85,11 +85,11 @@ refused-always (c ∷ cs) w n d =
     rw (written-cons, refused-once w c (refusalAt n (w .place)) (refused-says w (c .offer) (length (c .buffer)) n d), refused-always cs w n d)
 
 -- a tag that is not 32 bytes, and one that is
-pub written-bad : (tag : List ℕ) (calls : List Call) → length tag ≢ 32 → written (fresh tag) calls ≡ unmoved (stands (replicate 4 0) (refused 2 start))
-written-bad tag calls n = rw (fresh-bad tag n) (refused-always calls (stands (replicate 4 0) (refused 2 start)) 2 refl)
+pub written-bad : (tag : List ℕ) (calls : List Call) → length tag ≢ 32 → written (fresh tag) calls ≡ unmoved (stands noTag (refused 2 start))
+written-bad tag calls n = rw (fresh-bad tag n) (refused-always calls (stands noTag (refused 2 start)) 2 refl)
 
-pub written-good : (tag : List ℕ) (calls : List Call) → length tag ≡ 32 → Bytes tag → InRanges calls → ReadsBack (stands (hashAt tag 0) start) (written (fresh tag) calls)
-written-good tag calls n b i = rw (fresh-good tag n) (reads-back calls (stands (hashAt tag 0) start) (hash-is tag 0 b) reached-start i)
+pub written-good : (tag : List ℕ) (calls : List Call) → length tag ≡ 32 → Bytes tag → InRanges calls → ReadsBack (stands (tagAt tag) start) (written (fresh tag) calls)
+written-good tag calls n b i = rw (fresh-good tag n) (reads-back calls (stands (tagAt tag) start) (hash-is tag 0 b) reached-start i)
 
 pub read-after-write : (tag : List ℕ) → Bytes tag → ReadAfterWrite tag
 unfolding foundIn verdictOf verdictAt

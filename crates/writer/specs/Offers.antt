@@ -5,6 +5,7 @@ use mathlib.Core.List.{List}
 use Rattle.words.specs.Le.{long, low, high}
 use Rattle.words.specs.Record.{IsHash, ones}
 use Rattle.words.specs.declared.Words.{Words}
+use Rattle.words.specs.declared.Tag.{Tag}
 use Rattle.rules.specs.declared.Record.{Record}
 use Rattle.rules.specs.declared.Kind.{Kind}
 use Rattle.rules.specs.declared.Kind.the-variants as kind
@@ -32,19 +33,35 @@ kindOffered o = kindBy (o .fields)
 abbrev words : List ℕ → ℕ → ℕ → ℕ → ℕ → Words
 words hash a b c d = record { hash = hash; a = a; b = b; c = c; d = d }
 
--- the numbers of the record; of a footer those at 72, where key, created and expiry stand
-abbrev pub wordsBy : Fields → List ℕ → List ℕ → Words
-wordsBy (Header size) tag hash = words tag 2 0 (low size) (high size)
-wordsBy (FileHead flags entries) tag hash = words hash flags entries 0 0
-wordsBy (Segment flags bytes start end) tag hash = words hash flags bytes start end
-wordsBy Verification tag hash = words hash 0 0 0 0
-wordsBy Metadata tag hash = words hash 0 0 0 0
-wordsBy (XorbHead flags entries bytes disk) tag hash = words hash flags entries bytes disk
-wordsBy (Chunk start bytes) tag hash = words hash start bytes 0 0
-wordsBy SectionEnd tag hash = words ones 0 0 0 0
-wordsBy (Footer created expiry) tag hash = words hash (low created) (high created) (low expiry) (high expiry)
+-- the hash of the record: a header has the tag and a bookend all ones, any other the hash offered
+abbrev pub hashBy : Fields → Tag → List ℕ → List ℕ
+hashBy (Header size) tag hash = tag .0
+hashBy (FileHead flags entries) tag hash = hash
+hashBy (Segment flags bytes start end) tag hash = hash
+hashBy Verification tag hash = hash
+hashBy Metadata tag hash = hash
+hashBy (XorbHead flags entries bytes disk) tag hash = hash
+hashBy (Chunk start bytes) tag hash = hash
+hashBy SectionEnd tag hash = ones
+hashBy (Footer created expiry) tag hash = hash
 
-unfoldable pub wordsOf : List ℕ → Offer → Words
+-- the numbers behind it
+abbrev numbersBy : Fields → List ℕ → Words
+numbersBy (Header size) hash = words hash 2 0 (low size) (high size)
+numbersBy (FileHead flags entries) hash = words hash flags entries 0 0
+numbersBy (Segment flags bytes start end) hash = words hash flags bytes (start .0) (end .0)
+numbersBy Verification hash = words hash 0 0 0 0
+numbersBy Metadata hash = words hash 0 0 0 0
+numbersBy (XorbHead flags entries bytes disk) hash = words hash flags entries bytes disk
+numbersBy (Chunk start bytes) hash = words hash start bytes 0 0
+numbersBy SectionEnd hash = words hash 0 0 0 0
+numbersBy (Footer created expiry) hash = words hash (low created) (high created) (low expiry) (high expiry)
+
+-- the whole record; of a footer what stands at 72: key, created and expiry
+abbrev pub wordsBy : Fields → Tag → List ℕ → Words
+wordsBy f tag hash = numbersBy f (hashBy f tag hash)
+
+unfoldable pub wordsOf : Tag → Offer → Words
 wordsOf tag o = wordsBy (o .fields) tag (o .hash)
 
 -- the numbers of an offer are in their ranges; those of the code's types always are
@@ -57,7 +74,7 @@ In32 n = n < 2 ^ 32
 abbrev pub RangesBy : Fields → Type 0
 RangesBy (Header size) = In64 size
 RangesBy (FileHead flags entries) = In32 flags × In32 entries
-RangesBy (Segment flags bytes start end) = In32 flags × In32 bytes × In32 start × In32 end
+RangesBy (Segment flags bytes start end) = In32 flags × In32 bytes × In32 (start .0) × In32 (end .0)
 RangesBy Verification = Unit {0}
 RangesBy Metadata = Unit {0}
 RangesBy (XorbHead flags entries bytes disk) = In32 flags × In32 entries × In32 bytes × In32 disk
@@ -74,7 +91,7 @@ pub record InRange (o : Offer) : Type 0 where
 abbrev pub fieldsBy : Kind → Words → Fields
 fieldsBy kind.Header w = Header (long (w .c) (w .d))
 fieldsBy kind.FileHead w = FileHead (w .a) (w .b)
-fieldsBy kind.Segment w = Segment (w .a) (w .b) (w .c) (w .d)
+fieldsBy kind.Segment w = Segment (w .a) (w .b) (record { 0 = w .c }) (record { 0 = w .d })
 fieldsBy kind.Verification w = Verification
 fieldsBy kind.Metadata w = Metadata
 fieldsBy kind.XorbHead w = XorbHead (w .a) (w .b) (w .c) (w .d)

@@ -3,10 +3,12 @@ use Prim.Native.Nat.{ℕ}
 use mathlib.Core.List.{List, _++_}
 use mathlib.Core.Bool.{Bool, _&&_, _||_, not}
 use lib.Dec.{eqb, leb}
-use lib.ListN.{length, drop, replicate}
+use lib.ListN.{length, drop}
 use Rattle.words.specs.Checks.{pick, _unless_then_}
-use Rattle.words.specs.Record.{hashAt, isOnes, spellWords, spellFooter}
+use Rattle.words.specs.Record.{isOnes, tagAt, noTag, spellWords, spellFooter}
+use Rattle.words.specs.Refusals.{noRefusal}
 use Rattle.words.specs.declared.Words.{Words}
+use Rattle.words.specs.declared.Refusal.{Refusal}
 use Rattle.rules.specs.Rules.{sizeOf, faultOf, nextOf, start}
 use Rattle.rules.specs.Held.{held}
 use Rattle.rules.specs.Verdicts.{refused, refusalAt, verdictAt}
@@ -54,6 +56,15 @@ answerOf w o room =
     -- the buffer is not shorter than the record
     refuses w 15 unless leb (sizeOf (w .place)) room then answer.Wrote (sizeOf (w .place))
 
+-- the paper's numbers for each case: the bytes written, and the refusal
+abbrev pub wroteBy : Answer → ℕ
+wroteBy (answer.Wrote size) = size
+wroteBy (answer.Refused refusal) = 0
+
+abbrev pub refusalBy : Answer → Refusal
+refusalBy (answer.Wrote size) = noRefusal
+refusalBy (answer.Refused refusal) = refusal
+
 -- ## What a call changes
 
 -- a record that was written moves the writer on; a refusal changes nothing
@@ -81,7 +92,7 @@ bufferOf w o buffer = bufferBy (answerOf w o (length buffer)) w o buffer
 
 -- a tag that is not 32 bytes is refused with 2
 unfoldable pub fresh : List ℕ → Writer
-fresh tag = pick (eqb (length tag) 32) (record { tag = hashAt tag 0; place = start }) (record { tag = replicate 4 0; place = refused 2 start })
+fresh tag = pick (eqb (length tag) 32) (record { tag = tagAt tag; place = start }) (record { tag = noTag; place = refused 2 start })
 
 -- the reader's verdict where the writer stands: done, or 1 at the record due; 2 if the tag was bad
 unfoldable pub verdictOf : Writer → Verdict

@@ -9,7 +9,7 @@ use Rattle.rules.specs.Rules.{recordOf}
 use Rattle.rules.specs.Held.{held}
 use Rattle.rules.specs.declared.Record.{Record}
 use Rattle.words.specs.declared.Refusal.{Refusal}
-use Rattle.writer.specs.Offers.{wordsOf, offerOf, InRange}
+use Rattle.writer.specs.Offers.{hashBy, wordsOf, offerOf, InRange}
 use Rattle.writer.specs.declared.Offer.{Offer}
 use Rattle.layout.specs.Layout.{Each}
 use Rattle.layout.specs.Scan.{foundIn, IsAccepted}
@@ -90,6 +90,7 @@ WriteAfterRead tag = (bytes : List ℕ) → Bytes bytes → IsAccepted (foundIn 
 abbrev pub NeverWraps : List ℕ → Type 0
 NeverWraps tag = (calls : List Call) → InRanges calls → held (written (fresh tag) calls .writer .place) ≡ written (fresh tag) calls .writer .place
 
--- a record taken offers the fields that were offered, so that reading gives the offers back
+-- a record taken offers what was offered, so that reading gives the offers back; a header and the end of a section have no hash of their own
 abbrev pub OffersBack : Type 0
-OffersBack = (w : Writer) (o : Offer) (room size : ℕ) → answerOf w o room ≡ answer.Wrote size → offerOf (recordOf (w .place) (wordsOf (w .tag) o)) .fields ≡ o .fields
+OffersBack = (w : Writer) (o : Offer) (room size : ℕ) → answerOf w o room ≡ answer.Wrote size
+    → offerOf (recordOf (w .place) (wordsOf (w .tag) o)) ≡ record { hash = hashBy (o .fields) (w .tag) (o .hash); fields = o .fields }

@@ -1,6 +1,8 @@
 // The writer: a shard record by record, each into a lent buffer. What is offered, and the record that is made of it, is said in specs/Offers, what a call does in specs/Write.
+use rules::ChunkIndex;
 use rules::Place;
 use words::Refusal;
+use words::Tag;
 
 mod offers;
 mod writing;
@@ -17,8 +19,8 @@ pub enum Fields {
     Segment {
         flags: u32,
         bytes: u32,
-        start: u32,
-        end: u32,
+        start: ChunkIndex,
+        end: ChunkIndex,
     },
     Verification,
     Metadata,
@@ -47,7 +49,7 @@ pub struct Offer {
 
 // A writer stands at a place of the format, and knows the tag.
 pub struct Writer {
-    pub tag: [u64; 4],
+    pub tag: Tag,
     pub place: Place,
 }
 

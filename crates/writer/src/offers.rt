@@ -1,8 +1,10 @@
 // What is offered: the record that a writer makes of it, and what a record read offers again.
 use crate::Fields;
 use crate::Offer;
+use rules::ChunkIndex;
 use rules::Kind;
 use rules::Record;
+use words::Tag;
 use words::Words;
 use words::number::high_half;
 use words::number::joined;
@@ -45,12 +47,13 @@ impl Fields {
         }
     }
 
-    fn words(self, tag: [u64; 4], hash: [u64; 4]) -> Words
+    fn words(self, tag: Tag, hash: [u64; 4]) -> Words
         ensures { λ r. ⌜ r ≡ wordsBy self tag hash ⌝ }
     {
+        let four = tag.0;
         match self {
             Fields::Header { footer_size } => {
-                spelled(tag, 2, 0, low_half(footer_size), high_half(footer_size))
+                spelled(four, 2, 0, low_half(footer_size), high_half(footer_size))
             }
             Fields::FileHead { flags, entries } => spelled(hash, flags, entries, 0, 0),
             Fields::Segment {
@@ -58,7 +61,7 @@ impl Fields {
                 bytes,
                 start,
                 end,
-            } => spelled(hash, flags, bytes, start, end),
+            } => spelled(hash, flags, bytes, start.0, end.0),
             Fields::Verification => spelled(hash, 0, 0, 0, 0),
             Fields::Metadata => spelled(hash, 0, 0, 0, 0),
             Fields::XorbHead {
@@ -88,7 +91,7 @@ fn spelled(hash: [u64; 4], a: u32, b: u32, c: u32, d: u32) -> Words
 
 impl Offer {
     // The kind of record that is asked for.
-    pub fn kind(self) -> Kind
+    pub(crate) fn kind(self) -> Kind
         ensures { λ r. ⌜ r ≡ kindOffered self ⌝ }
     {
         let fields = self.fields;
@@ -96,7 +99,7 @@ impl Offer {
     }
 
     // The numbers of the record that a writer makes of the offer.
-    pub fn words(self, tag: [u64; 4]) -> Words
+    pub(crate) fn words(self, tag: Tag) -> Words
         ensures { λ r. ⌜ r ≡ wordsOf tag self ⌝ }
     {
         let fields = self.fields;
@@ -121,8 +124,8 @@ fn fields_by(k: Kind, w: Words) -> Fields
         Kind::Segment => Fields::Segment {
             flags: w.a,
             bytes: w.b,
-            start: w.c,
-            end: w.d,
+            start: ChunkIndex(w.c),
+            end: ChunkIndex(w.d),
         },
         Kind::Verification => Fields::Verification,
         Kind::Metadata => Fields::Metadata,

@@ -7,9 +7,9 @@ use rules::Kind;
 use rules::Place;
 use rules::Verdict;
 use words::Refusal;
+use words::Tag;
 use words::Words;
 use words::foot::put_footer;
-use words::hash::hash_at;
 use words::hash::is_ones;
 ghost use mathlib.Core.Path.{_≡_};
 ghost use mathlib.Core.Bool.{_&&_, not};
@@ -20,7 +20,7 @@ ghost use Rattle.words.specs.Checks.{pick, _unless_then_};
 ghost use Rattle.words.specs.Le.{puts};
 ghost use Rattle.words.specs.Record.{isOnes};
 ghost use Rattle.writer.specs.Offers.{kindOffered, wordsOf};
-ghost use Rattle.writer.specs.Write.{isHead, isFooter, bytesOf, refuses, answerOf, writtenBy, writtenOf, bufferOf, fresh, verdictOf};
+ghost use Rattle.writer.specs.Write.{isHead, isFooter, bytesOf, refuses, answerOf, wroteBy, refusalBy, writtenBy, writtenOf, bufferOf, fresh, verdictOf};
 ghost use Rattle.writer.specs.declared.Answer.the-variants as answer;
 
 // Whether a hash may stand in a record of this kind: no head has the hash of all ones.
@@ -28,6 +28,29 @@ fn may_stand(k: Kind, hash: [u64; 4]) -> bool
     ensures { λ r. ⌜ r ≡ not (isHead k && isOnes hash) ⌝ }
 {
     !((k.is(Kind::FileHead) | k.is(Kind::XorbHead)) & is_ones(hash))
+}
+
+// The paper's numbers for an answer.
+impl Answer {
+    // The bytes written, 0 where the record was refused.
+    pub fn wrote(self) -> usize
+        ensures { λ r. ⌜ r ≡ wroteBy self ⌝ }
+    {
+        match self {
+            Answer::Wrote(size) => size,
+            Answer::Refused(_) => 0,
+        }
+    }
+
+    // The refusal, with the number 0 where there was none.
+    pub fn refusal(self) -> Refusal
+        ensures { λ r. ⌜ r ≡ refusalBy self ⌝ }
+    {
+        match self {
+            Answer::Wrote(_) => Refusal::NONE,
+            Answer::Refused(refusal) => refusal,
+        }
+    }
 }
 
 impl Writer {
@@ -38,12 +61,12 @@ impl Writer {
         let start = Place::START;
         if tag.len() == 32 {
             Writer {
-                tag: hash_at(tag, 0),
+                tag: Tag::read(tag),
                 place: start,
             }
         } else {
             Writer {
-                tag: [0; 4],
+                tag: Tag::NONE,
                 place: start.refuse(Refusal::TAG_LENGTH),
             }
         }

@@ -7,7 +7,7 @@ use Rattle.writer.proofs.Writer.new.Tie as tie
 
 returns : tie.Need-returns
 unfolding fresh
-returns c = rw (c .hash-at .ensures, eq-eqb _ _ (c .before .if1 .taken))
+returns c = rw (c .read .ensures, eq-eqb _ _ (c .before .if1 .taken))
 
 returns-2 : tie.Need-returns-2
 unfolding fresh
