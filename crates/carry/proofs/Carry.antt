@@ -6,16 +6,15 @@ use mathlib.Core.List.{List, _++_}
 use Prim.Native.Nat.{ℕ, zero, suc, _+_, _-_, _≤_, _<_}
 use native.Mathlib.Nat.{sub-zero, zero-sub, suc-sub-suc}
 use native.Mathlib.Omega.{arith}
-use lib.Dec.{eqb}
 use lib.ListN.{length, take, drop, replicate, length-append, length-take, take-append-drop}
-use lib.Seq.{paste, take-append-seam, drop-append-add}
-use borrow.Author.Tests.{eqb-true}
+use lib.Seq.{paste, take-append-seam, drop-append-add, length-take-le}
 use Rattle.words.specs.Checks.{pick}
 use Rattle.words.specs.Record.{wordsAt, footerAt}
+use Rattle.words.specs.declared.Tag.{Tag}
 use Rattle.words.proofs.Parts.{words-front, footer-front}
-use Rattle.rules.specs.Rules.{sizeOf, faultOf, footerFault, wordsIn, faultIn}
+use Rattle.rules.specs.Rules.{footerDue, sizeOf, faultOf, footerFault, wordsIn, faultIn}
 use Rattle.rules.specs.declared.Place.{Place}
-use Rattle.carry.proofs.Sizes.{size-least}
+use Rattle.carry.proofs.Sizes.{size-foot, size-row}
 
 -- ## Bytes put into the carry
 
@@ -41,22 +40,27 @@ words-pasted carry piece h =
 
 module _ (p : Place) (bs z : List ℕ) (l : 0 < sizeOf p) (e : length bs ≡ sizeOf p) where
   pub words-own : wordsIn p (bs ++ z) ≡ wordsIn p bs
-  words-own = go (eqb (sizeOf p) 200) refl
+  words-own = go (footerDue (p .due)) refl
     where
-      m : 48 ≤ sizeOf p
-      m = size-least (p .due) l
+      go : (t : Bool) → footerDue (p .due) ≡ t → pick t (wordsAt (bs ++ z) 72) (wordsAt (bs ++ z) 0) ≡ pick t (wordsAt bs 72) (wordsAt bs 0)
+      go true q = words-front bs z 72 (omega (arith, e, size-foot (p .due) l q))
+      go false q = words-front bs z 0 (omega (arith, e, size-row (p .due) l q))
 
-      go : (t : Bool) → eqb (sizeOf p) 200 ≡ t → pick t (wordsAt (bs ++ z) 72) (wordsAt (bs ++ z) 0) ≡ pick t (wordsAt bs 72) (wordsAt bs 0)
-      go true q = words-front bs z 72 (omega (arith, e, eqb-true (sizeOf p) 200 q))
-      go false q = words-front bs z 0 (omega (arith, e, m))
-
-  pub fault-own : (tag : List ℕ) → faultIn tag p (bs ++ z) ≡ faultIn tag p bs
-  fault-own tag = go (eqb (sizeOf p) 200) refl
+  pub fault-own : (four : Tag) → faultIn four p (bs ++ z) ≡ faultIn four p bs
+  fault-own four = go (footerDue (p .due)) refl
     where
-      m : 48 ≤ sizeOf p
-      m = size-least (p .due) l
+      go : (t : Bool) → footerDue (p .due) ≡ t
+          → pick t (footerFault p (footerAt (bs ++ z) 0)) (faultOf four p (wordsAt (bs ++ z) 0)) ≡ pick t (footerFault p (footerAt bs 0)) (faultOf four p (wordsAt bs 0))
+      go true q = ap (footerFault p) (footer-front bs z (omega (arith, e, size-foot (p .due) l q)))
+      go false q = ap (faultOf four p) (words-front bs z 0 (omega (arith, e, size-row (p .due) l q)))
 
-      go : (t : Bool) → eqb (sizeOf p) 200 ≡ t
-          → pick t (footerFault p (footerAt (bs ++ z) 0)) (faultOf tag p (wordsAt (bs ++ z) 0)) ≡ pick t (footerFault p (footerAt bs 0)) (faultOf tag p (wordsAt bs 0))
-      go true q = ap (footerFault p) (footer-front bs z (omega (arith, e, eqb-true (sizeOf p) 200 q)))
-      go false q = ap (faultOf tag p) (words-front bs z 0 (omega (arith, e, m)))
+-- so where nothing is carried, what stands in the carry makes no difference
+module _ (p : Place) (l : 0 < sizeOf p) (piece : List ℕ) (m : sizeOf p ≤ length piece) where
+  size : length (take (sizeOf p) piece) ≡ sizeOf p
+  size = length-take-le (sizeOf p) piece m
+
+  pub words-any : (c c′ : List ℕ) → wordsIn p (paste c 0 piece (sizeOf p)) ≡ wordsIn p (paste c′ 0 piece (sizeOf p))
+  words-any c c′ = words-own p (take (sizeOf p) piece) _ l size ∙ sym (words-own p (take (sizeOf p) piece) _ l size)
+
+  pub fault-any : (four : Tag) (c c′ : List ℕ) → faultIn four p (paste c 0 piece (sizeOf p)) ≡ faultIn four p (paste c′ 0 piece (sizeOf p))
+  fault-any four c c′ = fault-own p (take (sizeOf p) piece) _ l size four ∙ sym (fault-own p (take (sizeOf p) piece) _ l size four)

@@ -1,7 +1,8 @@
-// The bytes of the record due: how many are missing, and what the whole record says, from a lent carry and the piece behind it. Inner functions, which
-// ask what reader, judge and `beside` prove of each call.
+// The bytes of the record due: how many are missing, and what the whole record says, from the carry and the piece behind it. Inner functions, which
+// ask what the reader and `whole` prove of each call.
 use rules::Place;
 use words::Footer;
+use words::Tag;
 use words::Words;
 ghost use mathlib.Core.Path.{_≡_};
 ghost use Prim.Native.Nat.{_-_, _≤_, _<_};
@@ -9,7 +10,6 @@ ghost use lib.ListN.{length};
 ghost use lib.Seq.{paste};
 ghost use Rattle.words.specs.Record.{wordsAt};
 ghost use Rattle.rules.specs.Rules.{sizeOf, wordsIn, faultIn};
-ghost use Rattle.carry.specs.Carry.{upTo, carryIn};
 
 // What the bytes of a whole record say: its numbers, and the number of the refusal, 0 if it is good.
 pub struct Heard {
@@ -38,40 +38,21 @@ pub fn filled(carry: [u8; 200], have: usize, piece: &[u8], n: usize) -> [u8; 200
     c
 }
 
-// The most that a carry has, however many bytes are said to be in it.
-fn up_to(have: usize) -> usize
-    ensures { λ r. ⌜ r ≡ upTo have ⌝ }
-{
-    if have <= Footer::SIZE {
-        have
-    } else {
-        Footer::SIZE
-    }
-}
-
-// The bytes that a lent carry has, then zeros.
-fn carried(carry: &[u8], have: usize) -> [u8; 200]
-    requires { ⌜ upTo have ≤ length (now carry) ⌝ }
-    ensures { λ r. ⌜ r ≡ carryIn (now (carry .entry)) have ⌝ }
-{
-    filled([0; 200], 0, carry, up_to(have))
-}
-
 // What the bytes in the carry and the first of the piece say of the record due.
 pub fn hear(
-    carry: &[u8],
+    carry: &[u8; 200],
     have: usize,
-    tag: [u64; 4],
+    tag: Tag,
     place: Place,
     piece: &[u8],
     lacks: usize,
 ) -> Heard
-    requires { ⌜ (upTo have ≤ length (now carry)) × (lacks ≡ sizeOf place - have) × (lacks ≤ length (now piece)) × (0 < sizeOf place) ⌝ }
-    ensures { λ r. ⌜ (r .words ≡ wordsIn place (paste (carryIn (now (carry .entry)) have) have (now (piece .entry)) lacks)) × (r .number ≡ faultIn tag place (paste (carryIn (now (carry .entry)) have) have (now (piece .entry)) lacks)) ⌝ }
+    requires { ⌜ (lacks ≡ sizeOf place - have) × (lacks ≤ length (now piece)) × (0 < sizeOf place) ⌝ }
+    ensures { λ r. ⌜ (r .words ≡ wordsIn place (paste (now (carry .entry)) have (now (piece .entry)) lacks)) × (r .number ≡ faultIn tag place (paste (now (carry .entry)) have (now (piece .entry)) lacks)) ⌝ }
 {
     let due = place.due;
-    if due.size() == Footer::SIZE {
-        let c = filled(carried(carry, have), have, piece, lacks);
+    if due.footer_due() {
+        let c = filled(*carry, have, piece, lacks);
         let f = Footer::read(&c, 0);
         let w = f.words;
         return Heard {
@@ -87,14 +68,14 @@ pub fn hear(
 }
 
 // The numbers of a record of 48 bytes, straight from the piece where nothing is carried.
-fn words_of(carry: &[u8], have: usize, piece: &[u8], lacks: usize) -> Words
-    requires { ⌜ (upTo have ≤ length (now carry)) × (lacks ≡ 48 - have) × (lacks ≤ length (now piece)) ⌝ }
-    ensures { λ r. ⌜ r ≡ wordsAt (paste (carryIn (now (carry .entry)) have) have (now (piece .entry)) lacks) 0 ⌝ }
+fn words_of(carry: &[u8; 200], have: usize, piece: &[u8], lacks: usize) -> Words
+    requires { ⌜ (lacks ≡ 48 - have) × (lacks ≤ length (now piece)) ⌝ }
+    ensures { λ r. ⌜ r ≡ wordsAt (paste (now (carry .entry)) have (now (piece .entry)) lacks) 0 ⌝ }
 {
     if have == 0 {
         Words::read(piece, 0)
     } else {
-        let c = filled(carried(carry, have), have, piece, lacks);
+        let c = filled(*carry, have, piece, lacks);
         Words::read(&c, 0)
     }
 }

@@ -9,8 +9,9 @@ use lib.Dec.{ltb}
 use lib.ListN.{length, take, replicate, length-append, length-take}
 use lib.Seq.{take-length}
 use borrow.Author.Tests.{ne-eqb, ltb-true, ltb-false}
-use Rattle.words.specs.Record.{hashAt}
+use Rattle.words.specs.Record.{tagAt}
 use Rattle.words.specs.declared.Words.{Words}
+use Rattle.words.specs.declared.Tag.{Tag}
 use Rattle.cut.specs.Format.{State, at, stopped, settle}
 use Rattle.cut.specs.Calls.{endStep, step}
 use Rattle.cut.specs.Calls as cut
@@ -27,7 +28,7 @@ use Rattle.layout.specs.Scan.{format}
 use Rattle.layout.specs.Scan as scan
 use Rattle.layout.specs.Reach.{Reached, placeOf}
 use Rattle.layout.proofs.Reach.{exact}
-use Rattle.reader.specs.Stream.{emptied, noRecord, settled, stoppedBy, wholeIn, stepOf, tagIn}
+use Rattle.reader.specs.Stream.{emptied, noRecord, settled, unlessRefused, stoppedBy, wholeIn, stepOf, tagIn}
 use Rattle.reader.specs.Readings.{readerOf}
 use Rattle.reader.specs.declared.Reader.{Reader}
 use Rattle.reader.specs.declared.Said.{Said}
@@ -39,35 +40,31 @@ use Rattle.reader.proofs.Calls.{step-none, step-kept, step-completed, a
 
 -- ## What a step on states is, as the reader's own
 
-abbrev pub saidAt : Verdict → Said
-saidAt (verdict.Accepted summary) = said.Nothing
-saidAt (verdict.Refused refusal) = said.Refused refusal
-
 abbrev saidOf : List Record → State Place Place → Said
 saidOf (r ∷ rs) s = said.Record
 saidOf [] (at p h) = said.Nothing
-saidOf [] (stopped p) = saidAt (verdictAt p)
+saidOf [] (stopped p) = unlessRefused said.Nothing (verdictAt p)
 
 abbrev firstOf : List Record → Record
 firstOf (r ∷ rs) = r
 firstOf [] = noRecord
 
-abbrev pub outOf : List ℕ → cut.Step Place Record Place → Step
+abbrev pub outOf : Tag → cut.Step Place Record Place → Step
 outOf tag o = record { reader = readerOf tag (o .out .state); answer = record { taken = o .taken; found = firstOf (o .out .recs); said = saidOf (o .out .recs) (o .out .state) } }
 
 -- what is known of a state that reading gives: bytes are held only where more are due, nothing is due only at the end,
 -- and one that has stopped holds its refusal; the tag is one of 32 bytes, unless the reading stopped at once
 abbrev pub Known : List ℕ → State Place Place → Type 0
-Known tag (at p h) = (tagIn tag ≡ hashAt tag 0) × ((length h < sizeOf p) ⊎ ((p .due ≡ End) × (h ≡ [])))
+Known tag (at p h) = (tagIn tag ≡ tagAt tag) × ((length h < sizeOf p) ⊎ ((p .due ≡ End) × (h ≡ [])))
 Known tag (stopped p) = (number : ℕ) × (p .due ≡ Refused number)
 
 -- ## One record, judged
 
 settled-out : (r : Reader) (w : Words) (number taken : ℕ)
-    → Reached (placeOf (settle (scan.settled number (r .place) (recordOf (r .place) w) (nextOf (r .place) w)) .state))
-    → settled r w number taken ≡ outOf (r .tag) (record { taken = taken; out = settle (scan.settled number (r .place) (recordOf (r .place) w) (nextOf (r .place) w)) })
+    → Reached (placeOf (settle (scan.settled number (r .stand .place) (recordOf (r .stand .place) w) (nextOf (r .stand .place) w)) .state))
+    → settled (r .stand) w number taken ≡ outOf (r .stand .tag) (record { taken = taken; out = settle (scan.settled number (r .stand .place) (recordOf (r .stand .place) w) (nextOf (r .stand .place) w)) })
 unfolding verdictAt
-settled-out r w zero taken k = rw (exact (nextOf (r .place) w) k)
+settled-out r w zero taken k = rw (exact (nextOf (r .stand .place) w) k)
 settled-out r w (suc n) taken k = rw (ne-eqb (suc n) 0 (λ e. omega arith))
 
 -- ## One call
@@ -76,12 +73,12 @@ verdict-end : (p : Place) → p .due ≡ End → verdictAt p ≡ verdict.Accepte
 unfolding verdictAt
 verdict-end p e = ap (λ (d : Due). verdictBy d p) e
 
-stopped-out : (tag four : List ℕ) (p : Place) (piece : List ℕ) (number : ℕ) → p .due ≡ Refused number → stepOf (emptied tag p) piece ≡ outOf tag (step (format four) (stopped p) piece)
+stopped-out : (tag four : Tag) (p : Place) (piece : List ℕ) (number : ℕ) → p .due ≡ Refused number → stepOf (emptied tag p) piece ≡ outOf tag (step (format four) (stopped p) piece)
 stopped-out tag four p piece number e =
     let v = verdict-refused p number e in
     rw (step-stopped (format four) p piece, again (emptied tag p) piece _ (ap sizeBy e) v, v)
 
-module _ (tag : List ℕ) (p : Place) where
+module _ (tag : Tag) (p : Place) where
   ended-out : (n : ℕ) (piece : List ℕ) → length piece ≡ n → stoppedBy (verdict.Accepted (summaryOf p)) (readerOf tag (at p [])) n ≡ outOf tag (endStep (format tag) p [] piece)
   unfolding verdictAt
   ended-out n [] e = rw (← e)
@@ -114,18 +111,18 @@ module _ (tag : List ℕ) (p : Place) where
       let s : step (format tag) (at p h) piece ≡ record { taken = n; out = settle (scan.settled (faultIn tag p bs) p (recordOf p (wordsIn p bs)) (nextOf p (wordsIn p bs))) } =
       step-full (format tag) p h piece l g in
       step-completed r piece (omega arith) m
-      ∙ ap (λ (x : List ℕ). settled r (wordsIn p x) (faultIn tag p x) n) c
-      ∙ ap₂ (λ (w : Words) (f : ℕ). settled r w f n) (words-own p bs z (omega arith) q) (fault-own p bs z (omega arith) q tag)
+      ∙ ap (λ (x : List ℕ). settled (r .stand) (wordsIn p x) (faultIn tag p x) n) c
+      ∙ ap₂ (λ (w : Words) (f : ℕ). settled (r .stand) w f n) (words-own p bs z (omega arith) q) (fault-own p bs z (omega arith) q tag)
       ∙ settled-out r (wordsIn p bs) (faultIn tag p bs) n (subst (λ (o : cut.Step Place Record Place). Reached (placeOf (o .out .state))) s k)
       ∙ ap (outOf tag) (sym s)
 
 -- a call of the reader is a call on the state
-pub step-out : (tag : List ℕ) (s : State Place Place) (piece : List ℕ) → Known tag s → Reached (placeOf (step (format (hashAt tag 0)) s piece .out .state))
-    → stepOf (readerOf (tagIn tag) s) piece ≡ outOf (tagIn tag) (step (format (hashAt tag 0)) s piece)
-step-out tag (stopped p) piece w k = stopped-out (tagIn tag) (hashAt tag 0) p piece (w .0) (w .1)
-step-out tag (at p h) piece (e, inr (d, n)) k = rw (e, n) (end-out (hashAt tag 0) p piece d)
+pub step-out : (tag : List ℕ) (s : State Place Place) (piece : List ℕ) → Known tag s → Reached (placeOf (step (format (tagAt tag)) s piece .out .state))
+    → stepOf (readerOf (tagIn tag) s) piece ≡ outOf (tagIn tag) (step (format (tagAt tag)) s piece)
+step-out tag (stopped p) piece w k = stopped-out (tagIn tag) (tagAt tag) p piece (w .0) (w .1)
+step-out tag (at p h) piece (e, inr (d, n)) k = rw (e, n) (end-out (tagAt tag) p piece d)
 step-out tag (at p h) piece (e, inl l) k = rw e (go (ltb (length h + length piece) (sizeOf p)) refl)
   where
-    go : (t : Bool) → ltb (length h + length piece) (sizeOf p) ≡ t → stepOf (readerOf (hashAt tag 0) (at p h)) piece ≡ outOf (hashAt tag 0) (step (format (hashAt tag 0)) (at p h) piece)
-    go true i = short-out (hashAt tag 0) p h piece (ltb-true _ _ i)
-    go false i = full-out (hashAt tag 0) p h piece l (ltb-false _ _ i) k
+    go : (t : Bool) → ltb (length h + length piece) (sizeOf p) ≡ t → stepOf (readerOf (tagAt tag) (at p h)) piece ≡ outOf (tagAt tag) (step (format (tagAt tag)) (at p h) piece)
+    go true i = short-out (tagAt tag) p h piece (ltb-true _ _ i)
+    go false i = full-out (tagAt tag) p h piece l (ltb-false _ _ i) k

@@ -9,7 +9,8 @@ use lib.ListN.{length, take, drop}
 use lib.Seq.{getD-drop}
 use Rattle.words.specs.Checks.{pick}
 use Rattle.words.specs.Le.{Bytes}
-use Rattle.words.specs.Record.{hashAt}
+use Rattle.words.specs.Record.{tagAt}
+use Rattle.words.specs.declared.Tag.{Tag}
 use Rattle.cut.specs.Format.{Judged, good, bad, State, at, stopped, settle, fill, run}
 use Rattle.cut.specs.Calls.{joined, endStep, inStep, step, feed, offered, looked, lookedAll}
 use Rattle.words.proofs.Numbers.{bytes-none, bytes-append}
@@ -26,22 +27,23 @@ use Rattle.layout.specs.Scan as scan
 use Rattle.layout.specs.Reach.{placeOf, lastPlace, totalsWith}
 use Rattle.layout.proofs.Judged.{bytes-left, bytes-right}
 use Rattle.layout.proofs.States.{states, calls}
-use Rattle.reader.specs.Stream.{tagIn, noRecord, fresh, verdictOf}
+use Rattle.reader.specs.Stream.{tagIn, noRecord, unlessRefused, fresh, verdictOf}
 use Rattle.reader.specs.Readings.{recordBy, handedOut, Seen, offers, fed, called, readerOf, seenOf, lookedAt, CutClaim, CallsClaim}
-use Rattle.reader.proofs.Bridge.{saidAt, outOf}
+use Rattle.reader.specs.declared.Said.the-variants as said
+use Rattle.reader.proofs.Bridge.{outOf}
 use Rattle.reader.proofs.Reached.{looked-bytes, Standing, standing-begin, fits, standing-run, standing-step, reader-step, fresh-begin}
 
 -- ## A call hands out the records of its step
 
-silence : (v : Verdict) → recordBy (saidAt v) noRecord ≡ []
+silence : (v : Verdict) → recordBy (unlessRefused said.Nothing v) noRecord ≡ []
 silence (verdict.Accepted summary) = refl
 silence (verdict.Refused refusal) = refl
 
-handed-settle : (tag : List ℕ) (taken : ℕ) (j : Judged Place Record Place) → handedOut (outOf tag (record { taken = taken; out = settle j })) ≡ settle j .recs
+handed-settle : (tag : Tag) (taken : ℕ) (j : Judged Place Record Place) → handedOut (outOf tag (record { taken = taken; out = settle j })) ≡ settle j .recs
 handed-settle tag taken (good q r) = refl
 handed-settle tag taken (bad q) = silence (verdictAt q)
 
-handed-step : (tag four : List ℕ) (s : State Place Place) (piece : List ℕ) → handedOut (outOf tag (step (format four) s piece)) ≡ step (format four) s piece .out .recs
+handed-step : (tag four : Tag) (s : State Place Place) (piece : List ℕ) → handedOut (outOf tag (step (format four) s piece)) ≡ step (format four) s piece .out .recs
 unfolding step fill
 handed-step tag four (stopped p) piece = silence (verdictAt p)
 handed-step tag four (at p h) piece = go (eqb (sizeOf p) 0) piece
@@ -63,38 +65,38 @@ handed-step tag four (at p h) piece = go (eqb (sizeOf p) 0) piece
 -- ## Calls for one piece, pieces, and any calls
 
 module _ (tag : List ℕ) where
-  offers-out : (n : ℕ) (s : State Place Place) (piece : List ℕ) → Standing tag s → Bytes piece → offers n (readerOf (tagIn tag) s) piece ≡ seenOf (tagIn tag) (feed (format (hashAt tag 0)) n s piece)
+  offers-out : (n : ℕ) (s : State Place Place) (piece : List ℕ) → Standing tag s → Bytes piece → offers n (readerOf (tagIn tag) s) piece ≡ seenOf (tagIn tag) (feed (format (tagAt tag)) n s piece)
   unfolding offers feed
   offers-out zero s piece w b = refl
   offers-out (suc n) s piece w b =
-      let o = step (format (hashAt tag 0)) s piece in
-      rw (reader-step tag s piece w b, handed-step (tagIn tag) (hashAt tag 0) s piece, offers-out n (o .out .state) (drop (o .taken) piece) (standing-step tag s w piece b) (λ i. rw getD-drop (b (o .taken + i))))
+      let o = step (format (tagAt tag)) s piece in
+      rw (reader-step tag s piece w b, handed-step (tagIn tag) (tagAt tag) s piece, offers-out n (o .out .state) (drop (o .taken) piece) (standing-step tag s w piece b) (λ i. rw getD-drop (b (o .taken + i))))
 
   -- more calls than a piece has bytes use it up, or refuse it
   pub offers-run : (n : ℕ) (s : State Place Place) (piece : List ℕ) → Standing tag s → Bytes piece → length piece < n
-      → offers n (readerOf (tagIn tag) s) piece ≡ seenOf (tagIn tag) (run (format (hashAt tag 0)) s piece)
-  offers-run n s piece w b l = offers-out n s piece w b ∙ ap (seenOf (tagIn tag)) (feed-run (format (hashAt tag 0)) n s piece (fits tag s w) l)
+      → offers n (readerOf (tagIn tag) s) piece ≡ seenOf (tagIn tag) (run (format (tagAt tag)) s piece)
+  offers-run n s piece w b l = offers-out n s piece w b ∙ ap (seenOf (tagIn tag)) (feed-run (format (tagAt tag)) n s piece (fits tag s w) l)
 
-  fed-run : (s : State Place Place) (ps : List (List ℕ)) → Standing tag s → Bytes (joined ps) → fed (readerOf (tagIn tag) s) ps ≡ seenOf (tagIn tag) (run (format (hashAt tag 0)) s (joined ps))
+  fed-run : (s : State Place Place) (ps : List (List ℕ)) → Standing tag s → Bytes (joined ps) → fed (readerOf (tagIn tag) s) ps ≡ seenOf (tagIn tag) (run (format (tagAt tag)) s (joined ps))
   unfolding fed
-  fed-run s [] w b = rw (run-nil (format (hashAt tag 0)) s)
+  fed-run s [] w b = rw (run-nil (format (tagAt tag)) s)
   fed-run s (p ∷ ps) w b =
       let y : Bytes p = bytes-left p (joined ps) b in
       rw (
         offers-run (suc (length p)) s p w y (omega arith),
-        fed-run (run (format (hashAt tag 0)) s p .state) ps (standing-run tag s w p y) (bytes-right p (joined ps) b),
-        run-append (format (hashAt tag 0)) s p (joined ps),
+        fed-run (run (format (tagAt tag)) s p .state) ps (standing-run tag s w p y) (bytes-right p (joined ps) b),
+        run-append (format (tagAt tag)) s p (joined ps),
       )
 
-  called-out : (s : State Place Place) (ps : List (List ℕ)) → Standing tag s → Bytes (joined ps) → called (readerOf (tagIn tag) s) ps ≡ seenOf (tagIn tag) (offered (format (hashAt tag 0)) s ps)
+  called-out : (s : State Place Place) (ps : List (List ℕ)) → Standing tag s → Bytes (joined ps) → called (readerOf (tagIn tag) s) ps ≡ seenOf (tagIn tag) (offered (format (tagAt tag)) s ps)
   unfolding called offered
   called-out s [] w b = refl
   called-out s (p ∷ ps) w b =
       let y : Bytes p = bytes-left p (joined ps) b in
       rw (
         reader-step tag s p w y,
-        handed-step (tagIn tag) (hashAt tag 0) s p,
-        called-out (step (format (hashAt tag 0)) s p .out .state) ps (standing-step tag s w p y) (bytes-right p (joined ps) b),
+        handed-step (tagIn tag) (tagAt tag) s p,
+        called-out (step (format (tagAt tag)) s p .out .state) ps (standing-step tag s w p y) (bytes-right p (joined ps) b),
       )
 
   -- ## From a fresh reader
@@ -115,7 +117,7 @@ module _ (tag : List ℕ) where
   scan-verdict (at p h) = refl
   scan-verdict (stopped p) = refl
 
-  scan-place : (s : State Place Place) → readerOf (tagIn tag) s .place ≡ placeOf s
+  scan-place : (s : State Place Place) → readerOf (tagIn tag) s .stand .place ≡ placeOf s
   scan-place (at p h) = refl
   scan-place (stopped p) = refl
 
@@ -131,25 +133,22 @@ module _ (tag : List ℕ) where
     seen-whole : o ≡ fed (fresh tag) (bytes ∷ [])
     seen-whole = e ∙ sym (one-scan bytes b)
 
-    seen-totals : o .reader .place .totals ≡ totalsWith nothing (o .records)
+    seen-totals : o .reader .stand .place .totals ≡ totalsWith nothing (o .records)
     unfolding lastPlace
     seen-totals = rw (e, scan-place (scan tag bytes .state)) (states tag bytes b .totals)
 
-  looked-all : (s : State Place Place) (ps : List (List ℕ)) → Bytes (joined ps) → Bytes (lookedAll (format (hashAt tag 0)) s ps)
+  looked-all : (s : State Place Place) (ps : List (List ℕ)) → Bytes (joined ps) → Bytes (lookedAll (format (tagAt tag)) s ps)
   unfolding lookedAll
   looked-all s [] b = bytes-none
   looked-all s (p ∷ ps) b =
-      bytes-append (looked (format (hashAt tag 0)) s p) (lookedAll (format (hashAt tag 0)) (step (format (hashAt tag 0)) s p .out .state) ps)
-      (looked-bytes (hashAt tag 0) s p (bytes-left p (joined ps) b)) (looked-all (step (format (hashAt tag 0)) s p .out .state) ps (bytes-right p (joined ps) b))
+      bytes-append (looked (format (tagAt tag)) s p) (lookedAll (format (tagAt tag)) (step (format (tagAt tag)) s p .out .state) ps)
+      (looked-bytes (tagAt tag) s p (bytes-left p (joined ps) b)) (looked-all (step (format (tagAt tag)) s p .out .state) ps (bytes-right p (joined ps) b))
 
   pub cut : (pieces : List (List ℕ)) → Bytes (joined pieces) → CutClaim tag pieces
   cut pieces b =
       let e = fed-scan pieces b in
       let bs = joined pieces in
       record { records = seen-records bs b e; verdict = seen-verdict bs b e; same = e; whole = seen-whole bs b e; totals = seen-totals bs b e }
-
-  pub whole : (bytes : List ℕ) → Bytes bytes → verdictOf (fed (fresh tag) (bytes ∷ []) .reader) ≡ foundIn tag bytes .verdict
-  whole bytes b = seen-verdict bytes b (one-scan bytes b)
 
   pub any-calls : (pieces : List (List ℕ)) → Bytes (joined pieces) → CallsClaim tag pieces
   any-calls pieces b =

@@ -2,6 +2,6 @@ pub mod Calls
 pub mod Bridge
 pub mod Reached
 pub mod Cut
-pub mod Whole
+pub mod Looks
 pub mod Theorem
-mod InPlace
+pub mod Shown

@@ -11,9 +11,9 @@ use Rattle.reader.specs.Stream.{stepOf}
 use Rattle.reader.specs.Readings.{Begun, SomeTaken, EnoughClaim, ReaderClaim}
 use Rattle.reader.specs.declared.Reader.{Reader}
 use Rattle.carry.proofs.Sizes.{size-most}
-use Rattle.reader.proofs.Calls.{no-more, some-more, refuses}
+use Rattle.reader.proofs.Calls.{no-more, some-more, empty-step, refuses}
 use Rattle.reader.proofs.Reached.{stands, kept}
-use Rattle.reader.proofs.Cut.{offers-run, cut, whole, any-calls}
+use Rattle.reader.proofs.Cut.{offers-run, cut, any-calls}
 
 enough : (r : Reader) → Begun r → (piece : List ℕ) → Bytes piece → EnoughClaim r piece
 enough r b piece y n l =
@@ -23,19 +23,19 @@ enough r b piece y n l =
 takes : (r : Reader) → Begun r → (piece : List ℕ) → SomeTaken r piece
 takes r b piece d l = go (kept r b .fits)
   where
-    go : (r .have < sizeOf (r .place)) ⊎ ((sizeOf (r .place) ≡ 0) × (r .have ≡ 0)) → 0 < stepOf r piece .answer .taken
+    go : (r .stand .have < sizeOf (r .stand .place)) ⊎ ((sizeOf (r .stand .place) ≡ 0) × (r .stand .have ≡ 0)) → 0 < stepOf r piece .answer .taken
     go (inl h) = some-more r piece h l
     go (inr z) = absurd (omega (arith, d, z .0))
 
-few : (r : Reader) → Begun r → r .have ≤ 200
+few : (r : Reader) → Begun r → r .stand .have ≤ 200
 few r b = go (kept r b .fits)
   where
-    go : (r .have < sizeOf (r .place)) ⊎ ((sizeOf (r .place) ≡ 0) × (r .have ≡ 0)) → r .have ≤ 200
-    go (inl h) = omega (arith, h, size-most (r .place .due))
+    go : (r .stand .have < sizeOf (r .stand .place)) ⊎ ((sizeOf (r .stand .place) ≡ 0) × (r .stand .have ≡ 0)) → r .stand .have ≤ 200
+    go (inl h) = omega (arith, h, size-most (r .stand .place .due))
     go (inr z) = omega (arith, z .1)
 
 pub reader : ReaderClaim
-reader = record { cut = cut; whole = whole; calls = any-calls; kept = kept; enough = enough; takes = takes; most = no-more; refused = refuses; few = few }
+reader = record { cut = cut; calls = any-calls; kept = kept; enough = enough; takes = takes; empty = λ r b. empty-step r (kept r b .fits); most = no-more; refused = refuses; few = few }
 
 -- ONLY: what is said to be one thing is one thing; so two results of a function that promises `r ≡ X` are equal
 pub only : {A : Type 0} {x y : A} (z : A) → x ≡ z → y ≡ z → x ≡ y

@@ -1,3 +1,5 @@
 pub mod Stream
-pub mod Whole
+pub mod Rows
+pub mod Looks
 pub mod Readings
+pub mod Showings

@@ -1,9 +1,11 @@
-// The reader by value: one call takes at most what is missing from the record due, and a record is judged once all its bytes are there.
+// One call of the reader: it takes at most what is missing from the record due, and a record is judged once all its bytes are there. The carry is lent to the
+// call, which leaves it clean: the bytes so far of the record due, and zeros.
 use crate::Answer;
+use crate::Call;
 use crate::Reader;
 use crate::Said;
+use crate::Stand;
 use crate::Step;
-use carry::Heard;
 use carry::filled;
 use carry::hear;
 use carry::missing;
@@ -11,27 +13,19 @@ use rules::Kind;
 use rules::Place;
 use rules::Record;
 use rules::Verdict;
+use whole::start_for;
 use words::Position;
 use words::Refusal;
+use words::Tag;
 use words::Words;
-use words::hash::hash_at;
 ghost use mathlib.Core.Path.{_≡_};
-ghost use Prim.Native.Nat.{_-_, _≤_, _<_};
+ghost use mathlib.Core.Bool.{true};
+ghost use Prim.Native.Nat.{_-_, _<_};
 ghost use lib.ListN.{length};
-ghost use lib.Seq.{paste};
-ghost use Rattle.rules.specs.Rules.{sizeOf, wordsIn, faultIn};
-ghost use Rattle.rules.specs.Verdicts.{refused, refusalAt};
-ghost use Rattle.reader.specs.declared.Said.the-variants as said;
-ghost use Rattle.reader.specs.Stream.{startFor, emptied, fresh, noRecord, silent, placeAfter, recordAfter, saidAfter, settledBy, kept, stopped, stepOf, verdictOf};
+ghost use Rattle.rules.specs.Rules.{sizeOf};
+ghost use Rattle.reader.specs.Stream.{fresh, lent, callOf, silent, passedBy, failedBy, kept, stopped, haltBy, stepOf, verdictOf};
 
-// What follows a whole record.
-pub struct Sequel {
-    pub place: Place,
-    pub found: Record,
-    pub said: Said,
-}
-
-pub const NO_RECORD: Record = Record {
+pub(crate) const NO_RECORD: Record = Record {
     at: Position(0),
     offset: Position(0),
     words: Words {
@@ -44,50 +38,19 @@ pub const NO_RECORD: Record = Record {
     kind: Kind::Header,
 };
 
-// Where reading begins. A tag that is not 32 bytes is refused with 2.
-pub fn start_for(tag: &[u8]) -> Place
-    ensures { λ r. ⌜ r ≡ startFor (now (tag .entry)) ⌝ }
+// Whether nothing is due, or less is left of the piece than the record due lacks.
+pub(crate) fn halts(size: usize, lacks: usize, left: usize) -> bool
+    ensures { λ r. ⌜ r ≡ haltBy size lacks left ⌝ }
 {
-    let start = Place::START;
-    if tag.len() == 32 {
-        start
-    } else {
-        start.refuse(Refusal::TAG_LENGTH)
-    }
+    if size == 0 { true } else { left < lacks }
 }
 
-// A good record is handed out, and reading goes on behind it.
-pub fn after(p: Place, number: u32, w: Words) -> Sequel
-    ensures { λ r. ⌜ (r .place ≡ placeAfter p number w) × (r .found ≡ recordAfter p number w) × (r .said ≡ saidAfter p number) ⌝ }
-{
-    if number == 0 {
-        Sequel {
-            place: p.next(w),
-            found: p.record(w),
-            said: Said::Record,
-        }
-    } else {
-        after_fault(p, number)
-    }
-}
-
-// No record is handed out for a faulty one, and reading has stopped.
-pub fn after_fault(p: Place, number: u32) -> Sequel
-    ensures { λ r. ⌜ (r .place ≡ refused number p) × (r .found ≡ noRecord) × (r .said ≡ said.Refused (refusalAt number p)) ⌝ }
-{
-    Sequel {
-        place: p.refuse(number),
-        found: NO_RECORD,
-        said: Said::Refused(p.refusal(number)),
-    }
-}
-
-// A call that takes nothing and hands out nothing.
-pub fn silence(said: Said) -> Answer
-    ensures { λ r. ⌜ r ≡ silent 0 said ⌝ }
+// A call that hands out nothing.
+fn silence(taken: usize, said: Said) -> Answer
+    ensures { λ r. ⌜ r ≡ silent taken said ⌝ }
 {
     Answer {
-        taken: 0,
+        taken: taken,
         found: NO_RECORD,
         said: said,
     }
@@ -99,22 +62,36 @@ impl Reader {
         ensures { λ r. ⌜ r ≡ fresh (now (tag .entry)) ⌝ }
     {
         let place = start_for(tag);
-        if tag.len() == 32 {
-            Reader::empty(hash_at(tag, 0), place)
+        let four = if tag.len() == 32 {
+            Tag::read(tag)
         } else {
-            Reader::empty([0; 4], place)
+            Tag::NONE
+        };
+        Reader {
+            stand: Stand {
+                have: 0,
+                tag: four,
+                place: place,
+            },
+            carry: [0; 200],
         }
     }
 
-    // A reader with nothing in its carry.
-    pub(crate) fn empty(tag: [u64; 4], place: Place) -> Reader
-        ensures { λ r. ⌜ r ≡ emptied tag place ⌝ }
+    // One call, by a reader that is passed on.
+    pub fn step(self, piece: &[u8]) -> Step
+        ensures { λ r. ⌜ r ≡ stepOf self (now (piece .entry)) ⌝ }
     {
-        Reader {
-            carry: [0; 200],
-            have: 0,
-            tag: tag,
-            place: place,
+        let stand = self.stand;
+        let mut carry = self.carry;
+        let call = stand.step(&mut carry, piece);
+        let next = call.stand;
+        let answer = call.answer;
+        Step {
+            reader: Reader {
+                stand: next,
+                carry: carry,
+            },
+            answer: answer,
         }
     }
 
@@ -122,113 +99,125 @@ impl Reader {
     pub fn verdict(self) -> Verdict
         ensures { λ r. ⌜ r ≡ verdictOf self ⌝ }
     {
-        let place = self.place;
+        let stand = self.stand;
+        let place = stand.place;
         place.verdict()
     }
+}
 
-    // One call: it takes the smaller of the piece's length and the bytes missing from the record due.
-    pub fn step(self, piece: &[u8]) -> Step
-        ensures { λ r. ⌜ r ≡ stepOf self (now (piece .entry)) ⌝ }
+impl Stand {
+    // One call, with the carry lent: it takes the smaller of the piece's length and the bytes missing from the record due.
+    pub fn step(self, carry: &mut [u8; 200], piece: &[u8]) -> Call
+        ensures { λ r. ⌜ (r ≡ callOf (stepOf (lent self (now (carry .entry))) (now (piece .entry)))) × (now (carry .exit) ≡ stepOf (lent self (now (carry .entry))) (now (piece .entry)) .reader .carry) ⌝ }
     {
-        let carry = self.carry;
         let tag = self.tag;
         let place = self.place;
         let due = place.due;
         let size = due.size();
-        if size == 0 {
-            return self.stop(piece.len());
-        }
         let lacks = missing(size, self.have);
-        if piece.len() < lacks {
-            return self.keep(piece);
+        if halts(size, lacks, piece.len()) {
+            return self.halt(carry, piece);
         }
-        let heard = hear_held(carry, self.have, tag, place, piece, lacks);
-        self.settle(after(place, heard.number, heard.words), lacks)
+        let heard = hear(carry, self.have, tag, place, piece, lacks);
+        *carry = [0; 200];
+        if heard.number == 0 {
+            self.passed(heard.words, lacks)
+        } else {
+            self.failed(heard.number, lacks)
+        }
     }
 
-    // After a whole record, good or faulty, all of the carry is zero.
-    pub fn settle(self, sequel: Sequel, taken: usize) -> Step
-        ensures { λ r. ⌜ r ≡ settledBy (self .tag) (sequel .place) (sequel .found) (sequel .said) taken ⌝ }
+    // A good record is handed out, and reading goes on behind it with nothing carried.
+    fn passed(self, w: Words, taken: usize) -> Call
+        ensures { λ r. ⌜ r ≡ callOf (passedBy self w taken) ⌝ }
     {
         let tag = self.tag;
-        let next = sequel.place;
-        let found = sequel.found;
-        let said = sequel.said;
-        Step {
-            reader: Reader::empty(tag, next),
+        let place = self.place;
+        Call {
+            stand: Stand {
+                have: 0,
+                tag: tag,
+                place: place.next(w),
+            },
             answer: Answer {
                 taken: taken,
-                found: found,
-                said: said,
+                found: place.record(w),
+                said: Said::Record,
             },
+        }
+    }
+
+    // No record is handed out for a faulty one, and reading has stopped.
+    pub(crate) fn failed(self, number: u32, taken: usize) -> Call
+        ensures { λ r. ⌜ r ≡ callOf (failedBy self number taken) ⌝ }
+    {
+        let tag = self.tag;
+        let place = self.place;
+        Call {
+            stand: Stand {
+                have: 0,
+                tag: tag,
+                place: place.refuse(number),
+            },
+            answer: silence(taken, Said::Refused(place.refusal(number))),
+        }
+    }
+
+    // A call that finds no whole record.
+    pub(crate) fn halt(self, carry: &mut [u8; 200], piece: &[u8]) -> Call
+        requires { ⌜ haltBy (sizeOf (self .place)) (sizeOf (self .place) - self .have) (length (now piece)) ≡ true ⌝ }
+        ensures { λ r. ⌜ (r ≡ callOf (stepOf (lent self (now (carry .entry))) (now (piece .entry)))) × (now (carry .exit) ≡ stepOf (lent self (now (carry .entry))) (now (piece .entry)) .reader .carry) ⌝ }
+    {
+        let place = self.place;
+        let due = place.due;
+        if due.size() == 0 {
+            self.stop(carry, piece.len())
+        } else {
+            self.keep(carry, piece)
         }
     }
 
     // Fewer bytes than are missing: they are kept.
-    pub(crate) fn keep(self, piece: &[u8]) -> Step
+    fn keep(self, carry: &mut [u8; 200], piece: &[u8]) -> Call
         requires { ⌜ length (now piece) < sizeOf (self .place) - self .have ⌝ }
-        ensures { λ r. ⌜ r ≡ kept self (now (piece .entry)) ⌝ }
+        ensures { λ r. ⌜ (r ≡ callOf (kept (lent self (now (carry .entry))) (now (piece .entry)))) × (now (carry .exit) ≡ kept (lent self (now (carry .entry))) (now (piece .entry)) .reader .carry) ⌝ }
     {
         let place = self.place;
         let tag = self.tag;
-        let carry = self.carry;
-        let have = self.have;
         let n = piece.len();
-        Step {
-            reader: Reader {
-                carry: filled(carry, have, piece, n),
-                have: have + n,
+        *carry = filled(*carry, self.have, piece, n);
+        Call {
+            stand: Stand {
+                have: self.have + n,
                 tag: tag,
                 place: place,
             },
-            answer: Answer {
-                taken: n,
-                found: NO_RECORD,
-                said: Said::Nothing,
-            },
+            answer: silence(n, Said::Nothing),
         }
     }
 
     // After the end or a refusal: a byte after the end is refused with 14, and a refusal is repeated.
-    pub fn stop(self, length: usize) -> Step
-        ensures { λ r. ⌜ r ≡ stopped self length ⌝ }
+    fn stop(self, carry: &mut [u8; 200], length: usize) -> Call
+        ensures { λ r. ⌜ (r ≡ callOf (stopped (lent self (now (carry .entry))) length)) × (now (carry .exit) ≡ stopped (lent self (now (carry .entry))) length .reader .carry) ⌝ }
     {
         let place = self.place;
-        let tag = self.tag;
         let verdict = place.verdict();
         match verdict {
-            Verdict::Refused(refusal) => Step {
-                reader: self,
-                answer: silence(Said::Refused(refusal)),
+            Verdict::Refused(refusal) => Call {
+                stand: self,
+                answer: silence(0, Said::Refused(refusal)),
             },
             Verdict::Accepted(_) => {
                 if length == 0 {
-                    Step {
-                        reader: self,
-                        answer: silence(Said::Nothing),
+                    Call {
+                        stand: self,
+                        answer: silence(0, Said::Nothing),
                     }
                 } else {
-                    Step {
-                        reader: Reader::empty(tag, place.refuse(Refusal::AFTER_END)),
-                        answer: silence(Said::Refused(place.refusal(Refusal::AFTER_END))),
-                    }
+                    *carry = [0; 200];
+                    self.failed(Refusal::AFTER_END, 0)
                 }
             }
         }
     }
-}
-
-// The same of a carry that a reader holds: what stands behind the bytes that it has makes no difference.
-fn hear_held(
-    carry: [u8; 200],
-    have: usize,
-    tag: [u64; 4],
-    place: Place,
-    piece: &[u8],
-    lacks: usize,
-) -> Heard
-    requires { ⌜ (lacks ≡ sizeOf place - have) × (lacks ≤ length (now piece)) × (0 < sizeOf place) ⌝ }
-    ensures { λ r. ⌜ (r .words ≡ wordsIn place (paste carry have (now (piece .entry)) lacks)) × (r .number ≡ faultIn tag place (paste carry have (now (piece .entry)) lacks)) ⌝ }
-{
-    hear(&carry, have, tag, place, piece, lacks)
 }

@@ -7,19 +7,14 @@ use Rattle.reader.proofs.Reader.new.Tie as tie
 
 returns : tie.Need-returns
 unfolding fresh
-returns c = rw (c .empty .ensures, c .before .hash-at .ensures, c .before .before .before .start-for .ensures, eq-eqb _ _ (c .before .before .if1 .taken))
+returns c =
+    let c1 = c .before in
+    let c2 = c1 .before in
+    rw (c .read .ensures, c2 .start-for .ensures, eq-eqb _ _ (c1 .if1 .taken))
 
 returns-2 : tie.Need-returns-2
 unfolding fresh
-returns-2 c = rw (c .empty2 .ensures, c .before .before .start-for .ensures, ne-eqb _ _ (c .before .if1 .left))
+returns-2 c = rw (c .before .start-for .ensures, ne-eqb _ _ (c .if1 .left))
 
 pub new-spec : {M : Type 1} → statement M
-new-spec =
-    tie.close
-    (tie.spec
-    (λ c. λ κs. search needs)
-    (λ c. λ κs. search needs)
-    (λ c. λ κs. search needs)
-    (λ c. λ κs. search needs)
-    returns
-    returns-2)
+new-spec = tie.close (tie.spec (λ c. λ κs. search needs) (λ c. λ κs. search needs) returns returns-2)

@@ -1,4 +1,0 @@
-pub mod Lending
-pub mod Turns
-pub mod Shown
-pub mod Theorem

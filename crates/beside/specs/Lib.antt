@@ -1,4 +1,0 @@
-pub mod Beside
-pub mod Rows
-pub mod Turns
-pub mod Showings
