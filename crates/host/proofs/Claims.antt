@@ -1,16 +1,8 @@
--- ALL CLAIMS about the boundary, each from its own file. Assumes nothing.
-use Rattle.host.specs.Claims.{BoundaryClaim}
-use Rattle.host.proofs.Boundary.{place-back, reader-back, writer-back, fields-back, kind-known}
-use Rattle.host.proofs.Given.{given}
-use Rattle.host.proofs.Writes.{writes}
+-- ALL CLAIMS about what a host holds, each from its own file. Assumes nothing.
+use Rattle.host.specs.Claims.{HostClaim}
+use Rattle.host.proofs.Back.{offer-back, accepted}
+use Rattle.host.proofs.Held.{held-is, on}
+use Rattle.host.proofs.Wrote.{wrote-is, again}
 
-pub boundary : BoundaryClaim
-boundary = record {
-  place = place-back;
-  reader = reader-back;
-  writer = writer-back;
-  offer = λ o. fields-back (o .hash) (o .fields);
-  known = λ o. kind-known (o .hash) (o .fields);
-  begun = given;
-  writes = writes;
-}
+pub host : HostClaim
+host = record { held-is = held-is; on = on; wrote-is = wrote-is; offer = offer-back; again = again; accepted = accepted }

@@ -1,4 +1,6 @@
-pub mod Boundary
-pub mod Given
-pub mod Writes
+pub mod Lent
+pub mod Looked
+pub mod Back
+pub mod Held
+pub mod Wrote
 pub mod Claims

@@ -1,7 +1,3 @@
-pub mod Audits
-pub mod BlobAnswers
 pub mod Boundary
+pub mod Calls
 pub mod Claims
-pub mod Founds
-pub mod Joins
-pub mod Plans

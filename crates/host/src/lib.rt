@@ -1,28 +1,15 @@
-// What crosses to C: states and answers as structs of numbers, and the ways out and in again. The functions that a host calls
-// are in host_read, host_step, host_write, host_whole and host_blobs. What each number means is said in specs/Boundary, Founds, Joins,
-// Plans, Audits and BlobAnswers, and for C in include/melagbosun.h.
-pub mod audits;
-pub mod blob_answers;
-pub mod founds;
-pub mod joins;
+// What crosses to C: states and answers as structs of numbers, and the ways out and in again. An inner crate: the functions that a host calls
+// are in host_read, host_step, host_write and host_whole. What each number means is said in specs/Boundary, and for C in include/melagbosun.h.
+use rules::Totals;
+
 mod places;
-pub mod plans;
 pub mod readers;
 pub mod records;
 pub mod writers;
 
-// How many there were of each, and the sum of the segments' bytes.
-#[repr(C)]
-pub struct TotalsState {
-    pub files: u64,
-    pub segments: u64,
-    pub xorbs: u64,
-    pub chunks: u64,
-    pub bytes: u64,
-}
-
-// What is due, by number: 0 header, 1 file head, 2 segment, 3 verification, 4 metadata, 5 xorb head, 6 chunk, 7 footer, 8 nothing
-// more; every other number is a refusal, of which `left` is the number.
+// What is due, by number: 1 header, 2 file head, 3 segment, 4 verification, 5 metadata, 6 xorb head, 7 chunk, 9 footer, 10 nothing more, 11 a refusal, of which
+// `left` is the number. So a record's number is its row in the paper's table, from 1. No other number is given out, and no refusal with number 0: a state that has
+// one, such as a struct of zeros, is of other making and is refused with 255.
 #[repr(C)]
 pub struct DueState {
     pub sum: u64,
@@ -36,7 +23,7 @@ pub struct DueState {
 pub struct PlaceState {
     pub at: u64,
     pub offset: u64,
-    pub totals: TotalsState,
+    pub totals: Totals,
     pub due: DueState,
     pub flags: u32,
     pub entries: u32,
@@ -44,18 +31,24 @@ pub struct PlaceState {
     pub have: u32,
 }
 
-// A reader between two calls, without its carry, which is lent beside it.
+// Where a reader or a writer stands: the tag, and the place.
 #[repr(C)]
-pub struct ReaderState {
+pub struct StandState {
     pub tag: [u64; 4],
     pub place: PlaceState,
+}
+
+// A reader between two calls: where it stands, and its carry.
+#[repr(C)]
+pub struct ReaderState {
+    pub stand: StandState,
+    pub carry: [u8; 200],
 }
 
 // A writer between two calls.
 #[repr(C)]
 pub struct WriterState {
-    pub tag: [u64; 4],
-    pub place: PlaceState,
+    pub stand: StandState,
 }
 
 // A record that was read. Its kind is its row in the paper's table, from 0.
@@ -75,16 +68,15 @@ pub struct RecordState {
 #[repr(C)]
 pub struct VerdictState {
     pub length: u64,
-    pub totals: TotalsState,
+    pub totals: Totals,
     pub at: u64,
     pub number: u32,
     pub footer: u32,
 }
 
-// What a call of the reader gives. `said` is 0 for nothing yet, 1 for a record, 2 for a refusal.
+// What a call of the reader answers. `said` is 0 for nothing yet, 1 for a record, 2 for a refusal.
 #[repr(C)]
 pub struct StepState {
-    pub reader: ReaderState,
     pub found: RecordState,
     pub taken: u64,
     pub at: u64,
@@ -105,19 +97,17 @@ pub struct OfferState {
     pub d: u32,
 }
 
-// What a call of the writer gives: so many bytes were written, or 0 and the refusal.
+// What a call of the writer answers: so many bytes were written, or 0 and the refusal.
 #[repr(C)]
 pub struct WrittenState {
-    pub writer: WriterState,
     pub wrote: u64,
     pub at: u64,
     pub number: u32,
 }
 
-// What reading a whole piece gives: the reader, the bytes taken, the rows filled, and what was said last.
+// What reading a whole piece answers: the bytes taken, the rows filled, and what was said last.
 #[repr(C)]
 pub struct ReadState {
-    pub reader: ReaderState,
     pub taken: u64,
     pub count: u64,
     pub at: u64,
@@ -131,75 +121,18 @@ pub struct HashState {
     pub numbers: [u64; 4],
 }
 
-// What finding a chunk gives. `said` is 0 where it is absent, 1 where it is found, 2 for a refusal.
-#[repr(C)]
-pub struct FoundChunkState {
-    pub at: u64,
-    pub said: u32,
-    pub number: u32,
-    pub block: u32,
-    pub index: u32,
+// What a call gives: where the reader or the writer stands after it, and the answer.
+pub struct StepOut {
+    pub stand: StandState,
+    pub answer: StepState,
 }
 
-// What finding a file gives, in the same way.
-#[repr(C)]
-pub struct FoundFileState {
-    pub at: u64,
-    pub said: u32,
-    pub number: u32,
-    pub file: u32,
+pub struct ReadOut {
+    pub stand: StandState,
+    pub answer: ReadState,
 }
 
-// What joining gives: so many bytes were written, or 0 and the refusal.
-#[repr(C)]
-pub struct JoinedState {
-    pub wrote: u64,
-    pub at: u64,
-    pub number: u32,
-}
-
-// What planning gives: so many rows were filled, or 0 and the refusal.
-#[repr(C)]
-pub struct PlannedState {
-    pub rows: u64,
-    pub at: u64,
-    pub number: u32,
-}
-
-// What an audit gives: how many segments name a listed xorb and how many another, or zeros and the refusal.
-#[repr(C)]
-pub struct AuditedState {
-    pub listed: u64,
-    pub unlisted: u64,
-    pub at: u64,
-    pub number: u32,
-}
-
-// What is found of a blob file's entry: where its digits and its data are and how many bytes these have, and the next position; or zeros
-// and the refusal.
-#[repr(C)]
-pub struct EntryState {
-    pub digits: u64,
-    pub data: u64,
-    pub length: u64,
-    pub next: u64,
-    pub at: u64,
-    pub number: u32,
-}
-
-// What writing an entry gives: so many bytes were written, or 0 and the refusal.
-#[repr(C)]
-pub struct PutState {
-    pub wrote: u64,
-    pub at: u64,
-    pub number: u32,
-}
-
-// What a scan gives: how many entries there are and the sum of their data lengths, or zeros and the refusal.
-#[repr(C)]
-pub struct ScannedState {
-    pub entries: u64,
-    pub bytes: u64,
-    pub at: u64,
-    pub number: u32,
+pub struct PutOut {
+    pub stand: StandState,
+    pub answer: WrittenState,
 }

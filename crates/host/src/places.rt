@@ -1,13 +1,12 @@
 // Places, as numbers and back.
 use crate::DueState;
 use crate::PlaceState;
-use crate::TotalsState;
 use rules::Due;
 use rules::Place;
-use rules::Totals;
 use words::Position;
+use words::Refusal;
 ghost use mathlib.Core.Path.{_≡_};
-ghost use Rattle.host.specs.Boundary.{yes, mark, totalsIn, totalsOut, dueIn, dueOut, placeIn, placeOut};
+ghost use Rattle.host.specs.Boundary.{yes, mark, numberIn, dueIn, dueOut, placeIn, placeOut};
 
 // A number is true unless it is 0.
 fn is_set(n: u32) -> bool
@@ -16,34 +15,17 @@ fn is_set(n: u32) -> bool
     n != 0
 }
 
-pub fn mark_of(b: bool) -> u32
+pub(crate) fn mark_of(b: bool) -> u32
     ensures { λ r. ⌜ r ≡ mark b ⌝ }
 {
     if b { 1 } else { 0 }
 }
 
-fn totals_in(s: TotalsState) -> Totals
-    ensures { λ r. ⌜ r ≡ totalsIn s ⌝ }
+// The number of a refusal. None that is given out is 0.
+fn number_in(left: u32) -> u32
+    ensures { λ r. ⌜ r ≡ numberIn left ⌝ }
 {
-    Totals {
-        files: s.files,
-        segments: s.segments,
-        xorbs: s.xorbs,
-        chunks: s.chunks,
-        bytes: s.bytes,
-    }
-}
-
-pub fn totals_out(t: Totals) -> TotalsState
-    ensures { λ r. ⌜ r ≡ totalsOut t ⌝ }
-{
-    TotalsState {
-        files: t.files,
-        segments: t.segments,
-        xorbs: t.xorbs,
-        chunks: t.chunks,
-        bytes: t.bytes,
-    }
+    if left == 0 { Refusal::STATE } else { left }
 }
 
 fn due_in(s: DueState) -> Due
@@ -52,16 +34,17 @@ fn due_in(s: DueState) -> Due
     let code = s.code;
     let left = s.left;
     match code {
-        0 => Due::Header,
-        1 => Due::FileHead,
-        2 => Due::Segment(left),
-        3 => Due::Verification(left),
-        4 => Due::Metadata,
-        5 => Due::XorbHead,
-        6 => Due::Chunk(left, s.sum, s.total),
-        7 => Due::Footer,
-        8 => Due::End,
-        _ => Due::Refused(left),
+        1 => Due::Header,
+        2 => Due::FileHead,
+        3 => Due::Segment(left),
+        4 => Due::Verification(left),
+        5 => Due::Metadata,
+        6 => Due::XorbHead,
+        7 => Due::Chunk(left, s.sum, s.total),
+        9 => Due::Footer,
+        10 => Due::End,
+        11 => Due::Refused(number_in(left)),
+        _ => Due::Refused(Refusal::STATE),
     }
 }
 
@@ -80,20 +63,20 @@ fn due_out(d: Due) -> DueState
     ensures { λ r. ⌜ r ≡ dueOut d ⌝ }
 {
     match d {
-        Due::Header => due_numbers(0, 0, 0, 0),
-        Due::FileHead => due_numbers(1, 0, 0, 0),
-        Due::Segment(left) => due_numbers(2, left, 0, 0),
-        Due::Verification(left) => due_numbers(3, left, 0, 0),
-        Due::Metadata => due_numbers(4, 0, 0, 0),
-        Due::XorbHead => due_numbers(5, 0, 0, 0),
-        Due::Chunk(left, sum, total) => due_numbers(6, left, sum, total),
-        Due::Footer => due_numbers(7, 0, 0, 0),
-        Due::End => due_numbers(8, 0, 0, 0),
-        Due::Refused(number) => due_numbers(9, number, 0, 0),
+        Due::Header => due_numbers(1, 0, 0, 0),
+        Due::FileHead => due_numbers(2, 0, 0, 0),
+        Due::Segment(left) => due_numbers(3, left, 0, 0),
+        Due::Verification(left) => due_numbers(4, left, 0, 0),
+        Due::Metadata => due_numbers(5, 0, 0, 0),
+        Due::XorbHead => due_numbers(6, 0, 0, 0),
+        Due::Chunk(left, sum, total) => due_numbers(7, left, sum, total),
+        Due::Footer => due_numbers(9, 0, 0, 0),
+        Due::End => due_numbers(10, 0, 0, 0),
+        Due::Refused(number) => due_numbers(11, number, 0, 0),
     }
 }
 
-pub fn place_in(s: PlaceState) -> Place
+pub(crate) fn place_in(s: PlaceState) -> Place
     ensures { λ r. ⌜ r ≡ placeIn s ⌝ }
 {
     let totals = s.totals;
@@ -101,7 +84,7 @@ pub fn place_in(s: PlaceState) -> Place
     Place {
         at: Position(s.at),
         offset: Position(s.offset),
-        totals: totals_in(totals),
+        totals: totals,
         flags: s.flags,
         entries: s.entries,
         footer: is_set(s.footer),
@@ -109,7 +92,7 @@ pub fn place_in(s: PlaceState) -> Place
     }
 }
 
-pub fn place_out(p: Place, have: u32) -> PlaceState
+pub(crate) fn place_out(p: Place, have: u32) -> PlaceState
     ensures { λ r. ⌜ r ≡ placeOut p have ⌝ }
 {
     let at = p.at;
@@ -119,7 +102,7 @@ pub fn place_out(p: Place, have: u32) -> PlaceState
     PlaceState {
         at: at.0,
         offset: offset.0,
-        totals: totals_out(totals),
+        totals: totals,
         due: due_out(due),
         flags: p.flags,
         entries: p.entries,

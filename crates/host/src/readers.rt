@@ -1,101 +1,121 @@
-// Readers and what their calls give, as numbers and back.
+// Readers and what their calls answer, as numbers and back, and the calls on a reader that a host lends: where it stands goes in and out, and the carry is
+// lent on. Inner functions, of which host_read and host_step make those that a host calls.
+use crate::ReadOut;
 use crate::ReadState;
 use crate::ReaderState;
+use crate::StandState;
+use crate::StepOut;
 use crate::StepState;
 use crate::places::place_in;
 use crate::places::place_out;
 use crate::records::record_out;
-use beside::Bare;
-use beside::Call;
-use beside::Read;
-use reader::Said;
-use words::Position;
-use words::Refusal;
+use reader::Answer;
+use reader::Read;
+use reader::Reader;
+use reader::Stand;
+use words::Tag;
 use words::number::low_half;
 ghost use mathlib.Core.Path.{_≡_};
-ghost use Rattle.host.specs.Boundary.{saidOut, refusalIn, readerIn, readerOut, stepOut, readOut};
+ghost use Rattle.reader.specs.Stream.{fresh};
+ghost use Rattle.host.specs.Boundary.{standIn, readerOut, standOut, stepOut, readOut};
+ghost use Rattle.host.specs.Calls.{stepBy, readBy};
 
-pub fn reader_in(s: ReaderState) -> Bare
-    ensures { λ r. ⌜ r ≡ readerIn s ⌝ }
+fn stand_in(s: StandState) -> Stand
+    ensures { λ r. ⌜ r ≡ standIn s ⌝ }
 {
     let tag = s.tag;
     let place = s.place;
-    Bare {
+    Stand {
         have: place.have as usize,
-        tag: tag,
+        tag: Tag(tag),
         place: place_in(place),
     }
 }
 
-pub fn reader_out(r: Bare) -> ReaderState
-    ensures { λ s. ⌜ s ≡ readerOut r ⌝ }
+fn stand_out(s: Stand) -> StandState
+    ensures { λ r. ⌜ r ≡ standOut s ⌝ }
 {
-    let tag = r.tag;
-    let place = r.place;
-    ReaderState {
-        tag: tag,
-        place: place_out(place, low_half(r.have as u64)),
+    let tag = s.tag;
+    let four = tag.0;
+    let place = s.place;
+    StandState {
+        tag: four,
+        place: place_out(place, low_half(s.have as u64)),
     }
 }
 
-fn said_code(s: Said) -> u32
-    ensures { λ r. ⌜ r ≡ saidOut s ⌝ }
+fn step_out(a: Answer) -> StepState
+    ensures { λ r. ⌜ r ≡ stepOut a ⌝ }
 {
-    match s {
-        Said::Nothing => 0,
-        Said::Record => 1,
-        Said::Refused(_) => 2,
-    }
-}
-
-fn refusal_in(s: Said) -> Refusal
-    ensures { λ r. ⌜ r ≡ refusalIn s ⌝ }
-{
-    match s {
-        Said::Nothing => Refusal {
-            at: Position(0),
-            number: 0,
-        },
-        Said::Record => Refusal {
-            at: Position(0),
-            number: 0,
-        },
-        Said::Refused(refusal) => refusal,
-    }
-}
-
-pub fn step_out(s: Call) -> StepState
-    ensures { λ r. ⌜ r ≡ stepOut s ⌝ }
-{
-    let reader = s.reader;
-    let answer = s.answer;
-    let found = answer.found;
-    let said = answer.said;
-    let refusal = refusal_in(said);
+    let found = a.found;
+    let said = a.said;
+    let refusal = said.refusal();
     let at = refusal.at;
     StepState {
-        reader: reader_out(reader),
         found: record_out(found),
-        taken: answer.taken as u64,
+        taken: a.taken as u64,
         at: at.0,
-        said: said_code(said),
+        said: said.number(),
         number: refusal.number,
     }
 }
 
-pub fn read_out(x: Read) -> ReadState
-    ensures { λ r. ⌜ r ≡ readOut x ⌝ }
+fn read_out(x: Read) -> ReadState
+    ensures { λ r. ⌜ r ≡ readOut (x .taken) (x .count) (x .said) ⌝ }
 {
-    let reader = x.reader;
     let said = x.said;
-    let refusal = refusal_in(said);
+    let refusal = said.refusal();
     let at = refusal.at;
     ReadState {
-        reader: reader_out(reader),
         taken: x.taken as u64,
         count: x.count as u64,
         at: at.0,
-        said: said_code(said),
+        said: said.number(),
         number: refusal.number,
+    }
+}
+
+// A fresh reader.
+pub fn new_for(tag: &[u8]) -> ReaderState
+    ensures { λ r. ⌜ r ≡ readerOut (fresh (now (tag .entry))) ⌝ }
+{
+    let reader = Reader::new(tag);
+    let stand = reader.stand;
+    let carry = reader.carry;
+    ReaderState {
+        stand: stand_out(stand),
+        carry: carry,
+    }
+}
+
+// One call.
+pub fn step_for(stand: StandState, carry: &mut [u8; 200], piece: &[u8]) -> StepOut
+    ensures { λ r. ⌜ (r ≡ record { stand = stepBy (record { stand = stand; carry = now (carry .entry) }) (now (piece .entry)) .reader .stand; answer = stepBy (record { stand = stand; carry = now (carry .entry) }) (now (piece .entry)) .answer }) × (now (carry .exit) ≡ stepBy (record { stand = stand; carry = now (carry .entry) }) (now (piece .entry)) .reader .carry) ⌝ }
+{
+    let at = stand_in(stand);
+    let call = at.step(carry, piece);
+    let next = call.stand;
+    let answer = call.answer;
+    StepOut {
+        stand: stand_out(next),
+        answer: step_out(answer),
+    }
+}
+
+// A whole piece.
+pub fn read_for(
+    stand: StandState,
+    carry: &mut [u8; 200],
+    piece: &[u8],
+    table: &mut [u64],
+) -> ReadOut
+    ensures { λ r. ⌜ (r ≡ record { stand = readBy (record { stand = stand; carry = now (carry .entry) }) (now (piece .entry)) (now (table .entry)) .reader .stand; answer = readBy (record { stand = stand; carry = now (carry .entry) }) (now (piece .entry)) (now (table .entry)) .answer }) × (now (carry .exit) ≡ readBy (record { stand = stand; carry = now (carry .entry) }) (now (piece .entry)) (now (table .entry)) .reader .carry) × (now (table .exit) ≡ readBy (record { stand = stand; carry = now (carry .entry) }) (now (piece .entry)) (now (table .entry)) .table) ⌝ }
+{
+    let at = stand_in(stand);
+    let read = at.read(carry, piece, table);
+    let next = read.stand;
+    ReadOut {
+        stand: stand_out(next),
+        answer: read_out(read),
     }
 }

@@ -1,17 +1,21 @@
 // Records, offers and verdicts, as numbers and back.
 use crate::OfferState;
 use crate::RecordState;
+use crate::StandState;
 use crate::VerdictState;
 use crate::places::mark_of;
-use crate::places::totals_out;
+use crate::places::place_in;
+use rules::ChunkIndex;
 use rules::Record;
 use rules::Verdict;
+use words::number::joined;
 use writer::Fields;
 use writer::Offer;
 ghost use mathlib.Core.Path.{_≡_};
-ghost use Rattle.host.specs.Boundary.{recordOut, fieldsIn, offerIn, verdictOut};
+ghost use Rattle.host.specs.Calls.{verdictFor};
+ghost use Rattle.host.specs.Boundary.{recordOut, fieldsIn, offerIn, offerFor, verdictOut};
 
-pub fn record_out(r: Record) -> RecordState
+pub(crate) fn record_out(r: Record) -> RecordState
     ensures { λ s. ⌜ s ≡ recordOut r ⌝ }
 {
     let at = r.at;
@@ -44,8 +48,8 @@ fn fields_in(s: OfferState) -> Fields
         2 => Fields::Segment {
             flags: s.a,
             bytes: s.b,
-            start: s.c,
-            end: s.d,
+            start: ChunkIndex(s.c),
+            end: ChunkIndex(s.d),
         },
         3 => Fields::Verification,
         4 => Fields::Metadata,
@@ -67,13 +71,32 @@ fn fields_in(s: OfferState) -> Fields
     }
 }
 
-pub fn offer_in(s: OfferState) -> Offer
+pub(crate) fn offer_in(s: OfferState) -> Offer
     ensures { λ r. ⌜ r ≡ offerIn s ⌝ }
 {
     let hash = s.hash;
     Offer {
         hash: hash,
         fields: fields_in(s),
+    }
+}
+
+// The offer that writes a record which was read. What its kind does not name is not looked at.
+pub fn offer_of(s: RecordState) -> OfferState
+    ensures { λ r. ⌜ r ≡ offerFor s ⌝ }
+{
+    let hash = s.hash;
+    let front = joined(s.a, s.b);
+    let back = joined(s.c, s.d);
+    OfferState {
+        hash: hash,
+        x: if s.kind == 0 { back } else { front },
+        y: back,
+        kind: s.kind,
+        a: s.a,
+        b: s.b,
+        c: s.c,
+        d: s.d,
     }
 }
 
@@ -87,9 +110,18 @@ pub fn verdict_out(v: Verdict) -> VerdictState
     let totals = summary.totals;
     VerdictState {
         length: summary.length,
-        totals: totals_out(totals),
+        totals: totals,
         at: at.0,
         number: refusal.number,
         footer: mark_of(summary.footer),
     }
+}
+
+// The verdict so far, of a reader or a writer that stands there.
+pub fn verdict_for(stand: StandState) -> VerdictState
+    ensures { λ r. ⌜ r ≡ verdictFor stand ⌝ }
+{
+    let at = stand.place;
+    let place = place_in(at);
+    verdict_out(place.verdict())
 }

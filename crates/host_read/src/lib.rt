@@ -1,44 +1,44 @@
-// For a host that reads a shard piece by piece: a fresh reader, a whole piece into a table of rows, and the verdict.
-use beside::Bare;
+// For a host that reads a shard piece by piece, with one reader that it keeps and lends by its address: a fresh reader, a whole piece into a table of rows, and the
+// verdict.
 use host::ReadState;
 use host::ReaderState;
 use host::VerdictState;
-use host::readers;
-use host::records;
+use host::readers::new_for;
+use host::readers::read_for;
+use host::records::verdict_for;
 ghost use mathlib.Core.Path.{_≡_};
-ghost use mathlib.Core.List.{[]};
-ghost use Rattle.reader.specs.Stream.{fresh, verdictOf};
-ghost use Rattle.beside.specs.Beside.{lend, bareOf};
-ghost use Rattle.beside.specs.Rows.{readWith};
-ghost use Rattle.host.specs.Boundary.{readerIn, readerOut, readOut, verdictOut};
+ghost use Rattle.reader.specs.Stream.{fresh};
+ghost use Rattle.host.specs.Boundary.{readerOut};
+ghost use Rattle.host.specs.Calls.{readBy, verdictFor};
 
-// A fresh reader, with nothing in its carry.
+// A fresh reader.
 #[no_mangle]
 pub extern "C" fn mdb_reader_new(tag: &[u8]) -> ReaderState
-    ensures { λ r. ⌜ r ≡ readerOut (bareOf (fresh (now (tag .entry)))) ⌝ }
+    ensures { λ r. ⌜ r ≡ readerOut (fresh (now (tag .entry))) ⌝ }
 {
-    readers::reader_out(Bare::new(tag))
+    new_for(tag)
 }
 
 // A whole piece: calls of the reader until it is used up or refused or the table is full. Each record found fills a row of nine numbers.
 #[no_mangle]
 pub extern "C" fn mdb_reader_read(
-    state: ReaderState,
-    carry: &mut [u8],
+    reader: &mut ReaderState,
     piece: &[u8],
     table: &mut [u64],
 ) -> ReadState
-    ensures { λ r. ⌜ (r ≡ readOut (readWith (readerIn state) (now (carry .entry)) (now (piece .entry)) (now (table .entry)) .answer)) × (now (carry .exit) ≡ readWith (readerIn state) (now (carry .entry)) (now (piece .entry)) (now (table .entry)) .carry) × (now (table .exit) ≡ readWith (readerIn state) (now (carry .entry)) (now (piece .entry)) (now (table .entry)) .table) ⌝ }
+    ensures { λ a. ⌜ (a ≡ readBy (now (reader .entry)) (now (piece .entry)) (now (table .entry)) .answer) × (now (reader .exit) ≡ readBy (now (reader .entry)) (now (piece .entry)) (now (table .entry)) .reader) × (now (table .exit) ≡ readBy (now (reader .entry)) (now (piece .entry)) (now (table .entry)) .table) ⌝ }
 {
-    let reader = readers::reader_in(state);
-    readers::read_out(reader.read(carry, piece, table))
+    let stand = reader.stand;
+    let out = read_for(stand, &mut reader.carry, piece, table);
+    reader.stand = out.stand;
+    out.answer
 }
 
 // The reader's verdict so far.
 #[no_mangle]
-pub extern "C" fn mdb_reader_verdict(state: ReaderState) -> VerdictState
-    ensures { λ r. ⌜ r ≡ verdictOut (verdictOf (lend (readerIn state) [])) ⌝ }
+pub extern "C" fn mdb_reader_verdict(reader: &ReaderState) -> VerdictState
+    ensures { λ r. ⌜ r ≡ verdictFor (now (reader .entry) .stand) ⌝ }
 {
-    let reader = readers::reader_in(state);
-    records::verdict_out(reader.verdict())
+    let stand = reader.stand;
+    verdict_for(stand)
 }

@@ -1,10 +1,10 @@
--- `read_out` meets its contract: each part goes out as its definition says. Assumes nothing.
+-- `read_out` meets its contract: number and position are those of what is said. Assumes nothing.
 use borrow.Author.Needs.{needs}
 use Rattle.host.proofs.readers.read_out.Statement.{statement}
 use Rattle.host.proofs.readers.read_out.Tie as tie
 
 returns : tie.Need-returns
-returns c = rw (c .said-code .ensures, c .before .reader-out .ensures, c .before .before .before .refusal-in .ensures)
+returns c = rw (c .number .ensures, c .before .before .refusal .ensures)
 
 pub read-out-spec : {M : Type 1} → statement M
-read-out-spec = tie.close (tie.spec (λ c. λ κs. search needs) (λ c. λ κs. search needs) (λ c. λ κs. search needs) returns)
+read-out-spec = tie.close (tie.spec (λ c. λ κs. search needs) (λ c. λ κs. search needs) returns)

@@ -1,4 +1,4 @@
--- `writer_in` meets its contract: the place is taken as `place_in` says. Assumes nothing.
+-- `writer_in` meets its contract: each number has its field. Assumes nothing.
 use borrow.Author.Needs.{needs}
 use Rattle.host.proofs.writers.writer_in.Statement.{statement}
 use Rattle.host.proofs.writers.writer_in.Tie as tie

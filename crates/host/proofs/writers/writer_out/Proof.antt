@@ -1,4 +1,4 @@
--- `writer_out` meets its contract: the place goes out as `place_out` says. Assumes nothing.
+-- `writer_out` meets its contract: each field has its number. Assumes nothing.
 use borrow.Author.Needs.{needs}
 use Rattle.host.proofs.writers.writer_out.Statement.{statement}
 use Rattle.host.proofs.writers.writer_out.Tie as tie
