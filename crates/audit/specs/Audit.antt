@@ -19,6 +19,7 @@ use Rattle.layout.specs.Blocks.{segmentOf, chunkOf, leading}
 use Rattle.audit.specs.declared.Counts.{Counts}
 use Rattle.audit.specs.declared.Audited.{Audited}
 use Rattle.audit.specs.declared.Audited.the-variants as audited
+use Rattle.audit.specs.declared.AuditedNumbers.{AuditedNumbers}
 
 -- ## One segment
 
@@ -82,6 +83,11 @@ falseAt at = refusedAt at 22
 abbrev pub answerTo : Option ℕ → Counts → Audited
 answerTo none counts = audited.Counted counts
 answerTo (some at) counts = audited.Refused (falseAt at)
+
+-- the paper's numbers for each case: the two counts, or the refusal
+abbrev pub auditedNumbers : Audited → AuditedNumbers
+auditedNumbers (audited.Counted counts) = record { listed = counts .listed; unlisted = counts .unlisted; at = 0; number = 0 }
+auditedNumbers (audited.Refused refusal) = record { listed = 0; unlisted = 0; at = refusal .at .0; number = refusal .number }
 
 unfoldable pub auditIn : List XorbBlock → List PlacedSegment → Audited
 auditIn xorbs ps = answerTo (firstFalse xorbs ps) (countsOf xorbs ps)

@@ -19,6 +19,9 @@ use Rattle.blobs.specs.declared.Put.the-variants as put
 use Rattle.blobs.specs.declared.Tally.{Tally}
 use Rattle.blobs.specs.declared.Scanned.{Scanned}
 use Rattle.blobs.specs.declared.Scanned.the-variants as scanned
+use Rattle.blobs.specs.declared.EntryNumbers.{EntryNumbers}
+use Rattle.blobs.specs.declared.PutNumbers.{PutNumbers}
+use Rattle.blobs.specs.declared.ScannedNumbers.{ScannedNumbers}
 
 -- ## Digits: 0 to 9, A to F, a to f
 
@@ -153,3 +156,20 @@ none = record { entries = 0; bytes = 0 }
 -- an entry has at least one byte, so as many steps as there are bytes are enough
 unfoldable pub scanOf : List ℕ → Scanned
 scanOf s = scanFrom (length s) s 0 none
+
+-- ## The paper's numbers, for each case of an answer
+
+-- the parts of an entry, or zeros and the refusal
+abbrev pub entryNumbers : Entry → EntryNumbers
+entryNumbers (entry.Found p) = record { digits = p .digits .0; «data» = p .«data» .0; length = p .length; next = p .next .0; at = 0; number = 0 }
+entryNumbers (entry.Refused refusal) = record { digits = 0; «data» = 0; length = 0; next = 0; at = refusal .at .0; number = refusal .number }
+
+-- so many bytes, or the refusal
+abbrev pub putNumbers : Put → PutNumbers
+putNumbers (put.Wrote size) = record { wrote = size; at = 0; number = 0 }
+putNumbers (put.Refused refusal) = record { wrote = 0; at = refusal .at .0; number = refusal .number }
+
+-- the counts, or zeros and the refusal
+abbrev pub scannedNumbers : Scanned → ScannedNumbers
+scannedNumbers (scanned.Counted t) = record { entries = t .entries; bytes = t .bytes; at = 0; number = 0 }
+scannedNumbers (scanned.Refused refusal) = record { entries = 0; bytes = 0; at = refusal .at .0; number = refusal .number }

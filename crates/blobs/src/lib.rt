@@ -4,6 +4,7 @@ use words::Position;
 use words::Refusal;
 
 mod digits;
+mod numbers;
 mod reading;
 mod scanning;
 mod writing;
@@ -59,4 +60,33 @@ pub struct Tally {
 pub enum Scanned {
     Counted(Tally),
     Refused(Refusal),
+}
+
+// The paper's numbers for what is found of an entry: where its digits and its data are and how many bytes these have, and the next position; or
+// zeros and the refusal.
+#[repr(C)]
+pub struct EntryNumbers {
+    pub digits: u64,
+    pub data: u64,
+    pub length: u64,
+    pub next: u64,
+    pub at: u64,
+    pub number: u32,
+}
+
+// Those for what writing an entry gives: so many bytes were written, or 0 and the refusal.
+#[repr(C)]
+pub struct PutNumbers {
+    pub wrote: u64,
+    pub at: u64,
+    pub number: u32,
+}
+
+// Those for what a scan gives: how many entries there are and the sum of their data lengths, or zeros and the refusal.
+#[repr(C)]
+pub struct ScannedNumbers {
+    pub entries: u64,
+    pub bytes: u64,
+    pub at: u64,
+    pub number: u32,
 }

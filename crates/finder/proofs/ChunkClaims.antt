@@ -1,14 +1,14 @@
 -- The claims of finding a chunk, because each record is a xorb head, a chunk with that hash, or changes nothing but the numbers. Assumes nothing.
 use mathlib.Core.Path.{_≡_, refl, sym, ap, _∙_, subst}
+use mathlib.Core.Logic.{_↔_}
 use mathlib.Core.Bool.{Bool, true, false, true≢false}
+use mathlib.Core.Option.{Option, none, some}
 use mathlib.Core.List.{List, [], _∷_, _++_, map}
-use Prim.Native.Nat.{ℕ, _+_, _-_, _≤_}
+use Prim.Native.Nat.{ℕ, _+_}
 use native.Mathlib.Omega.{arith}
-use lib.ListN.{length}
 use Rattle.words.specs.Checks.{pick}
 use Rattle.words.specs.Le.{Bytes}
-use Rattle.words.specs.Record.{IsHash, wordsAt, sameHash}
-use Rattle.words.specs.declared.Words.{Words}
+use Rattle.words.specs.Record.{IsHash, sameHash}
 use Rattle.rules.specs.Kinds.{sameKind}
 use Rattle.rules.specs.declared.Record.{Record}
 use Rattle.words.specs.declared.Position.{Position}
@@ -16,18 +16,25 @@ use Rattle.rules.specs.declared.BlockNumber.{BlockNumber}
 use Rattle.rules.specs.declared.ChunkIndex.{ChunkIndex}
 use Rattle.rules.specs.declared.Kind.{Kind}
 use Rattle.rules.specs.declared.Kind.the-variants as kind
-use Rattle.rules.specs.declared.Verdict.{Verdict}
-use Rattle.layout.specs.Layout.{Shard, Row, ifAny, placed, footRecord, rowsOf, xorbOffset, footerOffset, recordsOf}
-use Rattle.layout.specs.Blocks.{Stand}
-use Rattle.layout.specs.Scan.{foundIn}
+use Rattle.layout.specs.Layout.{XorbBlock, Foot, Shard, Row, Each, ifAny, placed, footRecord, fileSection, xorbSection, rowsOf, xorbOffset, footerOffset, recordsOf}
+use Rattle.layout.specs.Blocks.{xorbBlock, blocksThen}
+use Rattle.layout.specs.Scan.{Found, foundIn, IsAccepted}
 use Rattle.layout.proofs.Answers.{if-accepted, was-accepted}
-use Rattle.finder.specs.Find.{chunkAt, chunkIn, chunkFound}
-use Rattle.finder.specs.Claims.{Has, NoneHas, chunksSince, There, FirstChunk, ChunkClaim}
+use Rattle.layout.proofs.BlockKinds.{Kinds}
+use Rattle.layout.proofs.Last.{spelling}
+use Rattle.finder.specs.Find.{chunkAt, chunkBehind, chunkIn, chunkFound}
+use Rattle.finder.specs.Claims.{Has, NoneHas, chunksSince, First, There, Headed, FirstChunk, NoneIn, ChunkOfTree, ChunkClaim}
 use Rattle.finder.specs.declared.FoundChunk.{FoundChunk}
 use Rattle.finder.specs.declared.FoundChunk.the-variants as chunk
-use Rattle.finder.proofs.ChunkWalk.{NoChunk}
-use Rattle.finder.proofs.Firsts.{first-here, first-later, not-none, other-hash, IsThere, there}
-use Rattle.finder.proofs.Begin.{Accepted, accepted, no-chunk-foot}
+use Rattle.finder.proofs.Standing.{placed-then}
+use Rattle.finder.proofs.Sections.{xorb-section, file-section-kinds}
+use Rattle.finder.proofs.Firsts.{first-here, first-later, not-none, other-hash, first-stands, foot-kinds, there}
+use Rattle.finder.proofs.Begin.{Accepted, accepted, chunk-spelled}
+use Rattle.finder.proofs.ChunkFirsts.{chunk-if, none-if}
+
+-- a kind that changes nothing for chunks
+abbrev NoChunk : Kind → Type 0
+NoChunk k = (hash : List ℕ) (block index : ℕ) (r : Record) (later : ℕ → ℕ → FoundChunk) → chunkAt k hash block index r later ≡ later block index
 
 -- what a kind is for the search
 data Seen : Kind → Type 0 where
@@ -65,29 +72,44 @@ behind hash blocks index blocks′ index′ r rs n eb ei (found b i p f) = found
   index-is = f .index-is ∙ ap (λ (x : ℕ). chunksSince x (f .first .before)) ei;
 })
 
-module _ (hash : List ℕ) (blocks index : ℕ) (r : Record) (rs : List Record) (later : (b i : ℕ) → Ends hash b i rs (chunkIn hash b i rs)) where
+module _ (hash : List ℕ) (r : Record) (rs : List Record) where
   not-kind : {k : Kind} → r .kind ≡ k → sameKind k kind.Chunk ≡ false → Has kind.Chunk hash r → ⊥
   not-kind e s h = true≢false (ap (λ (x : Kind). sameKind x kind.Chunk) (sym (h .kind) ∙ e) ∙ s)
 
-  at-chunk : (t : Bool) → r .kind ≡ kind.Chunk → sameHash (r .words .hash) hash ≡ t
-      → Ends hash blocks index (r ∷ rs) (pick t (chunk.At (record { 0 = blocks - 1 }) (record { 0 = index }) (r .at)) (chunkIn hash blocks (index + 1) rs))
-  at-chunk true e s = found (record { 0 = blocks - 1 }) (record { 0 = index }) (r .at) (record {
-    first = first-here kind.Chunk hash r rs (record { kind = e; same = s });
-    block = omega arith;
-    index-is = refl;
-  })
-  at-chunk false e s = behind hash blocks index blocks (index + 1) r rs (other-hash kind.Chunk hash r s) (rw e (omega arith)) (rw e refl) (later blocks (index + 1))
+  module _ (block index : ℕ) (later : (b i : ℕ) → Ends hash (b + 1) i rs (chunkBehind hash b i rs)) where
+    at-chunk : (t : Bool) → r .kind ≡ kind.Chunk → sameHash (r .words .hash) hash ≡ t
+        → Ends hash (block + 1) index (r ∷ rs) (pick t (chunk.At (record { 0 = block }) (record { 0 = index }) (r .at)) (chunkBehind hash block (index + 1) rs))
+    at-chunk true e s = found (record { 0 = block }) (record { 0 = index }) (r .at) (record {
+      first = first-here kind.Chunk hash r rs (record { kind = e; same = s });
+      block = omega arith;
+      index-is = refl;
+    })
+    at-chunk false e s = behind hash (block + 1) index (block + 1) (index + 1) r rs (other-hash kind.Chunk hash r s) (rw e (omega arith)) (rw e refl) (later block (index + 1))
 
-  at-kind : (k : Kind) → r .kind ≡ k → Seen k → Ends hash blocks index (r ∷ rs) (chunkAt k hash blocks index r (λ b i. chunkIn hash b i rs))
-  at-kind kind.XorbHead e a-head = behind hash blocks index (blocks + 1) 0 r rs (not-kind e refl) (rw e refl) (rw e refl) (later (blocks + 1) 0)
-  at-kind kind.Chunk e a-chunk = at-chunk (sameHash (r .words .hash) hash) e refl
-  at-kind k e (another q s t) = rw (q hash blocks index r (λ b i. chunkIn hash b i rs))
-      (behind hash blocks index blocks index r rs (not-kind e t) (rw (e, s) (omega arith)) (rw (e, s, t) (omega arith)) (later blocks index))
+    at-kind : (k : Kind) → r .kind ≡ k → Seen k → Ends hash (block + 1) index (r ∷ rs) (chunkAt k hash block index r (λ b i. chunkBehind hash b i rs))
+    at-kind kind.XorbHead e a-head = behind hash (block + 1) index (block + 1 + 1) 0 r rs (not-kind e refl) (rw e refl) (rw e refl) (later (block + 1) 0)
+    at-kind kind.Chunk e a-chunk = at-chunk (sameHash (r .words .hash) hash) e refl
+    at-kind k e (another q s t) = rw (q hash block index r (λ b i. chunkBehind hash b i rs))
+        (behind hash (block + 1) index (block + 1) index r rs (not-kind e t) (rw (e, s) (omega arith)) (rw (e, s, t) (omega arith)) (later block index))
 
-ends : (hash : List ℕ) (blocks index : ℕ) (rs : List Record) → Ends hash blocks index rs (chunkIn hash blocks index rs)
+  -- before the first xorb head
+  at-first : (t : Bool) → sameKind (r .kind) kind.XorbHead ≡ t → Headed (r ∷ rs) → Ends hash 1 0 rs (chunkBehind hash 0 0 rs) → (Headed rs → Ends hash 0 0 rs (chunkIn hash rs))
+      → Ends hash 0 0 (r ∷ rs) (pick t (chunkBehind hash 0 0 rs) (chunkIn hash rs))
+  at-first true e h here later =
+      behind hash 0 0 1 0 r rs (λ u. true≢false (sym e ∙ ap (λ (k : Kind). sameKind k kind.XorbHead) (u .kind))) (rw e refl) (rw e refl) here
+  at-first false e h here later =
+      let (n, hs) = h e in
+      behind hash 0 0 0 0 r rs (not-kind refl n) (rw e refl) (rw (e, n) refl) (later hs)
+
+ends-behind : (hash : List ℕ) (block index : ℕ) (rs : List Record) → Ends hash (block + 1) index rs (chunkBehind hash block index rs)
+unfolding chunkBehind
+ends-behind hash block index [] = absent tt
+ends-behind hash block index (r ∷ rs) = at-kind hash r rs block index (λ b i. ends-behind hash b i rs) (r .kind) refl (seen (r .kind))
+
+ends : (hash : List ℕ) (rs : List Record) → Headed rs → Ends hash 0 0 rs (chunkIn hash rs)
 unfolding chunkIn
-ends hash blocks index [] = absent tt
-ends hash blocks index (r ∷ rs) = at-kind hash blocks index r rs (λ b i. ends hash b i rs) (r .kind) refl (seen (r .kind))
+ends hash [] h = absent tt
+ends hash (r ∷ rs) h = at-first hash r rs (sameKind (r .kind) kind.XorbHead) refl h (ends-behind hash 0 0 rs) (λ hs. ends hash rs hs)
 
 -- what an end says of its answer
 if-absent : {hash : List ℕ} {blocks index : ℕ} {rs : List Record} {answer : FoundChunk} → Ends hash blocks index rs answer → answer ≡ chunk.Absent → NoneHas kind.Chunk hash rs
@@ -109,44 +131,62 @@ if-found {hash} {blocks} {index} {rs} b i p (found b′ i′ p′ f) e =
 
 -- ## In an accepted shard
 
--- what is found among rows that stand in bytes stands there
-module _ (bytes hash : List ℕ) (b i : ℕ) (r : Record) (b′ : BlockNumber) (i′ : ChunkIndex) (p : Position) (w : wordsAt bytes (r .at .0) ≡ r .words) (l : r .at .0 + 48 ≤ length bytes)
-    (rest : ℕ → ℕ → FoundChunk) (later : (b i : ℕ) → rest b i ≡ chunk.At b′ i′ p → IsThere bytes hash (p .0)) where
-  stands-chunk : (t : Bool) → sameHash (r .words .hash) hash ≡ t → pick t (chunk.At (record { 0 = b - 1 }) (record { 0 = i }) (r .at)) (rest b (i + 1)) ≡ chunk.At b′ i′ p → IsThere bytes hash (p .0)
-  stands-chunk true m q =
-      let e : r .at ≡ p = cc in
-      subst (λ (x : Position). IsThere bytes hash (x .0)) e (l, ap (λ (v : Words). sameHash (v .hash) hash) w ∙ m)
-  stands-chunk false m q = later b (i + 1) q
+abbrev NotChunk : Kind → Type 0
+NotChunk k = sameKind k kind.Chunk ≡ false
 
-  stands-kind : (k : Kind) → Seen k → chunkAt k hash b i r rest ≡ chunk.At b′ i′ p → IsThere bytes hash (p .0)
-  stands-kind kind.XorbHead a-head q = later (b + 1) 0 q
-  stands-kind kind.Chunk a-chunk q = stands-chunk (sameHash (r .words .hash) hash) refl q
-  stands-kind k (another z s t) q = later b i (sym (z hash b i r rest) ∙ q)
+headed-past : (at : ℕ) (rows : List Row) (behind : List Record) → Kinds NotChunk rows → Headed behind → Headed (placed at rows ++ behind)
+headed-past at [] behind n h = h
+headed-past at (r ∷ rs) behind (n, ns) h = λ e. (n, headed-past (at + 48) rs behind ns h)
 
-stands : (bytes hash : List ℕ) (b i at : ℕ) (rows : List Row) (foot : List Record) (b′ : BlockNumber) (i′ : ChunkIndex) (p : Position)
-    → Stand bytes at rows → ((b i : ℕ) → chunkIn hash b i foot ≡ chunk.Absent) → chunkIn hash b i (placed at rows ++ foot) ≡ chunk.At b′ i′ p → IsThere bytes hash (p .0)
-unfolding chunkIn
-stands bytes hash b i at [] foot b′ i′ p s n e = let q : chunk.Absent ≡ chunk.At b′ i′ p = sym (n b i) ∙ e in let z : _≡_ {A = ℕ} 0 1 = cc in absurd (omega arith)
-stands bytes hash b i at (r ∷ rows) foot b′ i′ p (w, l, s) n e =
-    stands-kind bytes hash b i _ b′ i′ p w l (λ b i. chunkIn hash b i (placed (at + 48) rows ++ foot)) (λ b i q. stands bytes hash b i (at + 48) rows foot b′ i′ p s n q) (r .kind) (seen (r .kind)) e
+headed-section : (at : ℕ) (xs : List XorbBlock) (behind : List Record) → Headed behind → Headed (placed at (blocksThen xorbBlock xs []) ++ behind)
+headed-section at [] behind h = λ e. (refl, h)
+headed-section at (x ∷ xs) behind h = λ e. absurd (true≢false e)
 
-found-there : (tag bytes hash : List ℕ) (b : BlockNumber) (i : ChunkIndex) (p : Position) → Bytes tag → Bytes bytes → IsHash hash → chunkFound tag bytes hash ≡ chunk.At b i p → There bytes hash p
-unfolding chunkFound recordsOf
-found-there tag bytes hash b i p t y h e =
-    let a : Accepted tag bytes = accepted tag bytes t y (was-accepted chunk.Refused (λ (f : FoundChunk). f ≡ chunk.At b i p) (foundIn tag bytes .verdict) (λ s. chunkIn hash 0 0 (foundIn tag bytes .records)) (λ r q. let z : _≡_ {A = ℕ} 0 1 = cc in absurd (omega arith)) e) in
-    let s : Shard = a .shard in
-    let m = stands bytes hash 0 0 0 (rowsOf tag s) (map (footRecord (xorbOffset s) (footerOffset s)) (ifAny (s .footer))) b i p (a .rows)
-    (λ b i. no-chunk-foot hash (xorbOffset s) (footerOffset s) b i (s .footer)) (sym (a .chunks hash) ∙ e) in
-    there bytes hash p y h m
+headed-foot : (x h : ℕ) (o : Option Foot) → Headed (map (footRecord x h) (ifAny o))
+headed-foot x h none = tt
+headed-foot x h (some f) = λ e. (refl, tt)
+
+headed-shard : (tag : List ℕ) (s : Shard) → Headed (recordsOf tag s)
+unfolding recordsOf rowsOf xorbOffset
+headed-shard tag s =
+    let foot : List Record = map (footRecord (xorbOffset s) (footerOffset s)) (ifAny (s .footer)) in
+    λ e. (
+      refl,
+      subst Headed (sym (placed-then 48 (fileSection s) (xorbSection s) foot)) (headed-past 48 (fileSection s) _ (file-section-kinds NotChunk s refl refl refl refl refl)
+          (subst (λ (l : List Row). Headed (placed (xorbOffset s) l ++ foot)) (sym (xorb-section s)) (headed-section (xorbOffset s) (s .xorbs) foot (headed-foot (xorbOffset s) (footerOffset s) (s .footer))))),
+    )
+
+module _ (tag bytes : List ℕ) (t : Bytes tag) (y : Bytes bytes) where
+  headed-in : IsAccepted (foundIn tag bytes .verdict) → Headed (foundIn tag bytes .records)
+  headed-in a =
+      let o : Accepted tag bytes = accepted tag bytes t y a in
+      subst (λ (f : Found). Headed (f .records)) (sym (o .spelling .found)) (headed-shard tag (o .shard))
+
+  module _ (hash : List ℕ) where
+    ends-in : IsAccepted (foundIn tag bytes .verdict) → Ends hash 0 0 (foundIn tag bytes .records) (chunkFound tag bytes hash)
+    unfolding chunkFound
+    ends-in a = subst (Ends hash 0 0 (foundIn tag bytes .records)) (sym (if-accepted chunk.Refused (foundIn tag bytes .verdict) (chunkIn hash (foundIn tag bytes .records)) a)) (ends hash _ (headed-in a))
+
+    found-there : (b : BlockNumber) (i : ChunkIndex) (p : Position) → IsHash hash → chunkFound tag bytes hash ≡ chunk.At b i p → There bytes hash p
+    unfolding chunkFound recordsOf
+    found-there b i p h e =
+        let a = was-accepted chunk.Refused (λ (f : FoundChunk). f ≡ chunk.At b i p) (foundIn tag bytes .verdict) (λ s. chunkIn hash (foundIn tag bytes .records)) (λ r q. let z : _≡_ {A = ℕ} 0 1 = cc in absurd (omega arith)) e in
+        let o : Accepted tag bytes = accepted tag bytes t y a in
+        let s : Shard = o .shard in
+        let f : First kind.Chunk hash (recordsOf tag s) p = subst (λ (f : Found). First kind.Chunk hash (f .records) p) (o .spelling .found) (if-found b i p (ends-in a) e .first) in
+        there bytes hash p y h (first-stands kind.Chunk bytes hash 0 (rowsOf tag s) _ p (o .rows) (foot-kinds kind.Chunk (xorbOffset s) (footerOffset s) (s .footer) (λ q. let z : _≡_ {A = ℕ} 0 1 = cc in omega arith)) f)
 
 pub chunks : ChunkClaim
-unfolding chunkFound
 chunks = record {
-  absent = λ hash b i rs. (if-absent (ends hash b i rs), if-none (ends hash b i rs));
-  first = λ hash b i rs b′ i′ p e. if-found b′ i′ p (ends hash b i rs) e;
-  shard = λ tag bytes hash a.
-      let v : Verdict = foundIn tag bytes .verdict in
-      let rs : List Record = foundIn tag bytes .records in
-      ((λ e. if-absent (ends hash 0 0 rs) (sym (if-accepted chunk.Refused v (chunkIn hash 0 0 rs) a) ∙ e)), (λ n. if-accepted chunk.Refused v (chunkIn hash 0 0 rs) a ∙ if-none (ends hash 0 0 rs) n));
-  there = found-there;
+  absent = λ hash rs h. (if-absent (ends hash rs h), if-none (ends hash rs h));
+  first = λ hash rs b i p h e. if-found b i p (ends hash rs h) e;
+  headed = headed-in;
+  shard = λ tag bytes hash t y a. (if-absent (ends-in tag bytes t y hash a), if-none (ends-in tag bytes t y hash a));
+  there = λ tag bytes hash b i p t y. found-there tag bytes t y hash b i p;
+  tree = λ tag bytes s hash b i p t l h x.
+      subst (λ (r : FoundChunk). r ≡ chunk.At b i p ↔ ChunkOfTree hash 0 (xorbOffset s) (s .xorbs) b i p) (sym (chunk-spelled tag bytes hash s (spelling tag l t bytes s x)))
+      (chunk-if hash h 0 (xorbOffset s) (s .xorbs) (x .sound .xorbs) b i p);
+  none-in-tree = λ tag bytes s hash t l h x.
+      subst (λ (r : FoundChunk). r ≡ chunk.Absent ↔ Each (λ y. NoneIn hash (y .chunks)) (s .xorbs)) (sym (chunk-spelled tag bytes hash s (spelling tag l t bytes s x)))
+      (none-if hash h 0 (xorbOffset s) (s .xorbs) (x .sound .xorbs));
 }

@@ -1,32 +1,31 @@
 -- The claims of finding a file, because each record is a file head with that hash, one with another, or changes nothing. Assumes nothing.
 use mathlib.Core.Path.{_≡_, refl, sym, ap, _∙_, subst}
+use mathlib.Core.Logic.{_↔_, _≢_}
 use mathlib.Core.Bool.{Bool, true, false, true≢false}
-use mathlib.Core.List.{List, [], _∷_, _++_, map}
-use Prim.Native.Nat.{ℕ, _+_, _≤_}
+use mathlib.Core.List.{List, [], _∷_}
+use Prim.Native.Nat.{ℕ, _+_}
 use native.Mathlib.Omega.{arith}
-use lib.ListN.{length}
 use Rattle.words.specs.Checks.{pick}
 use Rattle.words.specs.Le.{Bytes}
-use Rattle.words.specs.Record.{IsHash, wordsAt, sameHash}
-use Rattle.words.specs.declared.Words.{Words}
+use Rattle.words.specs.Record.{IsHash, sameHash}
 use Rattle.rules.specs.Kinds.{sameKind}
 use Rattle.rules.specs.declared.Record.{Record}
 use Rattle.words.specs.declared.Position.{Position}
 use Rattle.rules.specs.declared.FileNumber.{FileNumber}
 use Rattle.rules.specs.declared.Kind.{Kind}
 use Rattle.rules.specs.declared.Kind.the-variants as kind
-use Rattle.rules.specs.declared.Verdict.{Verdict}
-use Rattle.layout.specs.Layout.{Shard, Row, ifAny, placed, footRecord, rowsOf, xorbOffset, footerOffset, recordsOf}
-use Rattle.layout.specs.Blocks.{Stand}
-use Rattle.layout.specs.Scan.{foundIn}
+use Rattle.layout.specs.Layout.{Shard, Each, rowsOf, xorbOffset, footerOffset, recordsOf}
+use Rattle.layout.specs.Scan.{Found, foundIn, IsAccepted}
 use Rattle.layout.proofs.Answers.{if-accepted, was-accepted}
+use Rattle.layout.proofs.Last.{spelling}
 use Rattle.finder.specs.Find.{fileAt, fileIn, fileFound}
-use Rattle.finder.specs.Claims.{Has, NoneHas, There, FirstFile, FileClaim}
+use Rattle.finder.specs.Claims.{Has, NoneHas, First, There, FirstFile, FileOfTree, FileClaim}
 use Rattle.finder.specs.declared.FoundFile.{FoundFile}
 use Rattle.finder.specs.declared.FoundFile.the-variants as file
-use Rattle.finder.proofs.FileWalk.{NoFile}
-use Rattle.finder.proofs.Firsts.{first-here, first-later, not-none, other-hash, IsThere, there}
-use Rattle.finder.proofs.Begin.{Accepted, accepted, no-file-foot}
+use Rattle.finder.proofs.FileTree.{NoFile}
+use Rattle.finder.proofs.Firsts.{first-here, first-later, not-none, other-hash, first-stands, foot-kinds, there}
+use Rattle.finder.proofs.Begin.{Accepted, accepted, file-spelled}
+use Rattle.finder.proofs.FileFirsts.{file-if, none-if}
 
 -- what a kind is for the search
 data Seen : Kind → Type 0 where
@@ -90,43 +89,28 @@ if-found n p (found n′ p′ f) e =
 
 -- ## In an accepted shard
 
--- what is found among rows that stand in bytes stands there
-module _ (bytes hash : List ℕ) (files : ℕ) (r : Record) (n : FileNumber) (p : Position) (w : wordsAt bytes (r .at .0) ≡ r .words) (l : r .at .0 + 48 ≤ length bytes)
-    (rest : ℕ → FoundFile) (later : (m : ℕ) → rest m ≡ file.At n p → IsThere bytes hash (p .0)) where
-  stands-file : (t : Bool) → sameHash (r .words .hash) hash ≡ t → pick t (file.At (record { 0 = files }) (r .at)) (rest (files + 1)) ≡ file.At n p → IsThere bytes hash (p .0)
-  stands-file true m q =
-      let e : r .at ≡ p = cc in
-      subst (λ (x : Position). IsThere bytes hash (x .0)) e (l, ap (λ (v : Words). sameHash (v .hash) hash) w ∙ m)
-  stands-file false m q = later (files + 1) q
+module _ (tag bytes hash : List ℕ) where
+  ends-in : IsAccepted (foundIn tag bytes .verdict) → Ends hash 0 (foundIn tag bytes .records) (fileFound tag bytes hash)
+  unfolding fileFound
+  ends-in a = subst (Ends hash 0 (foundIn tag bytes .records)) (sym (if-accepted file.Refused (foundIn tag bytes .verdict) (fileIn hash 0 (foundIn tag bytes .records)) a)) (ends hash 0 _)
 
-  stands-kind : (k : Kind) → Seen k → fileAt k hash files r rest ≡ file.At n p → IsThere bytes hash (p .0)
-  stands-kind kind.FileHead a-file q = stands-file (sameHash (r .words .hash) hash) refl q
-  stands-kind k (another z s) q = later files (sym (z hash files r rest) ∙ q)
-
-stands : (bytes hash : List ℕ) (files at : ℕ) (rows : List Row) (foot : List Record) (n : FileNumber) (p : Position)
-    → Stand bytes at rows → ((m : ℕ) → fileIn hash m foot ≡ file.Absent) → fileIn hash files (placed at rows ++ foot) ≡ file.At n p → IsThere bytes hash (p .0)
-unfolding fileIn
-stands bytes hash files at [] foot n p s u e = let q : file.Absent ≡ file.At n p = sym (u files) ∙ e in let z : _≡_ {A = ℕ} 0 1 = cc in absurd (omega arith)
-stands bytes hash files at (r ∷ rows) foot n p (w, l, s) u e =
-    stands-kind bytes hash files _ n p w l (λ m. fileIn hash m (placed (at + 48) rows ++ foot)) (λ m q. stands bytes hash m (at + 48) rows foot n p s u q) (r .kind) (seen (r .kind)) e
-
-found-there : (tag bytes hash : List ℕ) (n : FileNumber) (p : Position) → Bytes tag → Bytes bytes → IsHash hash → fileFound tag bytes hash ≡ file.At n p → There bytes hash p
-unfolding fileFound recordsOf
-found-there tag bytes hash n p t y h e =
-    let a : Accepted tag bytes = accepted tag bytes t y (was-accepted file.Refused (λ (f : FoundFile). f ≡ file.At n p) (foundIn tag bytes .verdict) (λ s. fileIn hash 0 (foundIn tag bytes .records)) (λ r q. let z : _≡_ {A = ℕ} 0 1 = cc in absurd (omega arith)) e) in
-    let s : Shard = a .shard in
-    let m = stands bytes hash 0 0 (rowsOf tag s) (map (footRecord (xorbOffset s) (footerOffset s)) (ifAny (s .footer))) n p (a .rows)
-    (λ m. no-file-foot hash (xorbOffset s) (footerOffset s) m (s .footer)) (sym (a .files hash) ∙ e) in
-    there bytes hash p y h m
+  found-there : (n : FileNumber) (p : Position) → Bytes tag → Bytes bytes → IsHash hash → fileFound tag bytes hash ≡ file.At n p → There bytes hash p
+  unfolding fileFound recordsOf
+  found-there n p t y h e =
+      let a = was-accepted file.Refused (λ (f : FoundFile). f ≡ file.At n p) (foundIn tag bytes .verdict) (λ s. fileIn hash 0 (foundIn tag bytes .records)) (λ r q. let z : _≡_ {A = ℕ} 0 1 = cc in absurd (omega arith)) e in
+      let o : Accepted tag bytes = accepted tag bytes t y a in
+      let s : Shard = o .shard in
+      let f : First kind.FileHead hash (recordsOf tag s) p = subst (λ (f : Found). First kind.FileHead hash (f .records) p) (o .spelling .found) (if-found n p (ends-in a) e .first) in
+      there bytes hash p y h (first-stands kind.FileHead bytes hash 0 (rowsOf tag s) _ p (o .rows) (foot-kinds kind.FileHead (xorbOffset s) (footerOffset s) (s .footer) (λ q. let z : _≡_ {A = ℕ} 0 1 = cc in omega arith)) f)
 
 pub files : FileClaim
-unfolding fileFound
 files = record {
   absent = λ hash n rs. (if-absent (ends hash n rs), if-none (ends hash n rs));
   first = λ hash n rs m p e. if-found m p (ends hash n rs) e;
-  shard = λ tag bytes hash a.
-      let v : Verdict = foundIn tag bytes .verdict in
-      let rs : List Record = foundIn tag bytes .records in
-      ((λ e. if-absent (ends hash 0 rs) (sym (if-accepted file.Refused v (fileIn hash 0 rs) a) ∙ e)), (λ n. if-accepted file.Refused v (fileIn hash 0 rs) a ∙ if-none (ends hash 0 rs) n));
+  shard = λ tag bytes hash a. (if-absent (ends-in tag bytes hash a), if-none (ends-in tag bytes hash a));
   there = found-there;
+  tree = λ tag bytes s hash n p t l h x.
+      subst (λ (r : FoundFile). r ≡ file.At n p ↔ FileOfTree hash 0 48 (s .files) n p) (sym (file-spelled tag bytes hash s (spelling tag l t bytes s x))) (file-if hash h 0 48 (s .files) (x .sound .files) n p);
+  none-in-tree = λ tag bytes s hash t l h x.
+      subst (λ (r : FoundFile). r ≡ file.Absent ↔ Each (λ f. f .hash ≢ hash) (s .files)) (sym (file-spelled tag bytes hash s (spelling tag l t bytes s x))) (none-if hash h 0 48 (s .files) (x .sound .files));
 }

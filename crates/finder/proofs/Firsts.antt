@@ -1,7 +1,9 @@
 -- The first record of a kind with a hash, of one record and the others behind it; and what stands at the position of one that was read. Assumes nothing.
-use mathlib.Core.Path.{_≡_, refl, sym, ap, _∙_}
+use mathlib.Core.Path.{_≡_, refl, sym, ap, _∙_, subst}
+use mathlib.Core.Logic.{_≢_}
 use mathlib.Core.Bool.{true, false, true≢false}
-use mathlib.Core.List.{List, [], _∷_, _++_}
+use mathlib.Core.Option.{Option, none, some}
+use mathlib.Core.List.{List, [], _∷_, _++_, map}
 use Prim.Native.Nat.{ℕ, _+_, _≤_}
 use native.Mathlib.Omega.{arith}
 use lib.ListN.{length, length-take, length-drop}
@@ -13,6 +15,10 @@ use Rattle.words.proofs.Records.{hash-is, hash-same}
 use Rattle.rules.specs.declared.Record.{Record}
 use Rattle.words.specs.declared.Position.{Position}
 use Rattle.rules.specs.declared.Kind.{Kind}
+use Rattle.rules.specs.declared.Kind.the-variants as kind
+use Rattle.layout.specs.Layout.{Foot, Row, Each, ifAny, placed, footRecord}
+use Rattle.layout.specs.Blocks.{Stand}
+use Rattle.layout.proofs.Lists.{each-second}
 use Rattle.finder.specs.Find.{partAt}
 use Rattle.finder.specs.Claims.{Has, NoneHas, First, There}
 use Rattle.words.proofs.Parts.{words-there}
@@ -48,8 +54,28 @@ module _ (k : Kind) (hash : List ℕ) where
 
 -- ## At its position
 
-abbrev pub IsThere : List ℕ → List ℕ → ℕ → Type 0
+abbrev IsThere : List ℕ → List ℕ → ℕ → Type 0
 IsThere bytes hash p = (p + 48 ≤ length bytes) × (sameHash (hashAt bytes p) hash ≡ true)
+
+-- the first among rows that stand in bytes and records of other kinds behind them stands there
+pub first-stands : (k : Kind) (bytes hash : List ℕ) (at : ℕ) (rows : List Row) (foot : List Record) (p : Position)
+    → Stand bytes at rows → Each (λ r. r .kind ≢ k) foot → First k hash (placed at rows ++ foot) p → IsThere bytes hash (p .0)
+first-stands k bytes hash at rows foot p s o f = go at rows (f .before) s (f .split)
+  where
+    none-behind : (before rs : List Record) → Each (λ r. r .kind ≢ k) rs → rs ≡ before ++ (f .hit ∷ f .after) → ⊥
+    none-behind before rs n e = each-second (λ (r : Record). r .kind ≢ k) before (f .hit ∷ f .after) (rw e at n) .0 (f .has .kind)
+
+    go : (at : ℕ) (rows : List Row) (before : List Record) → Stand bytes at rows → placed at rows ++ foot ≡ before ++ (f .hit ∷ f .after) → IsThere bytes hash (p .0)
+    go at [] before t e = absurd (none-behind before foot o e)
+    go at (r ∷ rs) (b ∷ before) (w, l, t) e = let q : placed (at + 48) rs ++ foot ≡ before ++ (f .hit ∷ f .after) = cc in go (at + 48) rs before t q
+    go at (r ∷ rs) [] (w, l, t) e =
+        let q : record { at = record { 0 = at }; offset = record { 0 = 0 }; words = r .words; kind = r .kind } ≡ f .hit = cc in
+        let x : at ≡ p .0 = ap (λ (h : Record). h .at .0) q ∙ ap (λ (y : Position). y .0) (f .position) in
+        subst (IsThere bytes hash) x (l, ap (λ (v : Words). sameHash (v .hash) hash) (w ∙ ap (λ (h : Record). h .words) q) ∙ f .has .same)
+
+pub foot-kinds : (k : Kind) (x h : ℕ) (o : Option Foot) → kind.Footer ≢ k → Each (λ r. r .kind ≢ k) (map (footRecord x h) (ifAny o))
+foot-kinds k x h none n = tt
+foot-kinds k x h (some f) n = (n, tt)
 
 pub there : (bytes hash : List ℕ) (p : Position) → Bytes bytes → IsHash hash → IsThere bytes hash (p .0) → There bytes hash p
 unfolding partAt

@@ -26,7 +26,7 @@ pub file-heads : Heads fileBlock SoundFile (λ w. furtherRecords (w .a) (w .b))
 unfolding fileRows
 file-heads = record { not-ones = λ f h. ones-false (f .hash) (h .hash) (h .not-ones); counts = λ f h. omega (arith, length-file f, further f (h .matched)) }
 
-length-chunks : (start : ℕ) (cs : List Chunk) → length (chunkRows start cs) ≡ length cs
+pub length-chunks : (start : ℕ) (cs : List Chunk) → length (chunkRows start cs) ≡ length cs
 length-chunks start [] = refl
 length-chunks start (c ∷ cs) = omega (arith, length-chunks (start + c .bytes) cs)
 

@@ -1,10 +1,15 @@
 pub mod Part
 pub mod Standing
 pub mod Sections
-pub mod ChunkWalk
 pub mod Heads
+pub mod Among
+pub mod ChunkTree
+pub mod FileTree
+pub mod ChunkWalk
 pub mod FileWalk
 pub mod Begin
 pub mod Firsts
+pub mod ChunkFirsts
+pub mod FileFirsts
 pub mod ChunkClaims
 pub mod FileClaims

@@ -8,6 +8,7 @@ use lib.ListN.{length, take, drop, length-append, length-drop}
 use lib.Seq.{take-at, drop-at, drop-drop}
 use Rattle.words.specs.Record.{Whole, wordsAt, spellWords}
 use Rattle.words.specs.Le.{Bytes}
+use Rattle.words.specs.declared.Tag.{Tag}
 use Rattle.words.proofs.Parts.{words-there}
 use Rattle.words.proofs.Records.{words-spell, length-words}
 use Rattle.rules.specs.Rules.{nextOf, start}
@@ -40,9 +41,9 @@ placed-then at (x ∷ xs) ys behind =
 abbrev AllWhole : List Row → Type 0
 AllWhole rs = Each (λ r. Whole (r .words)) rs
 
-whole-rows : (tag : List ℕ) (p q : Place) (rs : List Row) → Goes tag p rs q → AllWhole rs
-whole-rows tag p q [] g = tt
-whole-rows tag p q (r ∷ rs) g = let (h, t) = stepped tag p q r rs g in (h .whole, whole-rows tag (nextOf p (r .words)) q rs t)
+whole-rows : (four : Tag) (p q : Place) (rs : List Row) → Goes four p rs q → AllWhole rs
+whole-rows four p q [] g = tt
+whole-rows four p q (r ∷ rs) g = let (h, t) = stepped four p q r rs g in (h .whole, whole-rows four (nextOf p (r .words)) q rs t)
 
 stand-rows : (bytes : List ℕ) (at : ℕ) (rs : List Row) (rest : List ℕ) → drop at bytes ≡ spellRows rs ++ rest → AllWhole rs → Stand bytes at rs
 stand-rows bytes at [] rest e h = tt

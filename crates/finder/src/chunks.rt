@@ -1,9 +1,9 @@
 // Finding a chunk: blocks and their chunks, in order, up to the first that has the hash.
 use crate::FoundChunk;
-use reader::last_place;
 use rules::BlockNumber;
 use rules::ChunkIndex;
 use rules::Verdict;
+use whole::last_place;
 use words::Position;
 use words::Words;
 use words::hash::hash_at;

@@ -1,9 +1,9 @@
 // Finding a file: file heads, in order, up to the first that has the hash; a head says how many records it has behind it.
 use crate::FoundFile;
-use reader::last_place;
 use rules::FileNumber;
 use rules::Verdict;
 use rules::further_records;
+use whole::last_place;
 use words::Position;
 use words::Words;
 use words::hash::is_ones;

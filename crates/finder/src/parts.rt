@@ -1,12 +1,11 @@
 // The 48 bytes at a position, as a part of the caller's buffer.
 use words::Position;
 use words::Words;
-ghost use mathlib.Core.Path.{_≡_};
-ghost use Rattle.finder.specs.Find.{partAt};
+ghost use Rattle.finder.specs.Find.{PartOf};
 
 // An empty part where 48 bytes don't fit.
 pub fn record_at(shard: &[u8], at: Position) -> &[u8]
-    ensures { λ r. ⌜ now r ≡ partAt (now (shard .entry)) (at .0) ⌝ }
+    ensures { λ r. ⌜ PartOf (shard .entry) (at .0) r ⌝ }
 {
     let n = shard.len();
     let start = at.0 as usize;

@@ -9,8 +9,9 @@ use lib.Dec.{eqb·suc-zero}
 use lib.ListN.{length, take, drop}
 use lib.Seq.{take-at, drop-at}
 use Rattle.words.specs.Le.{Bytes}
-use Rattle.words.specs.Record.{Whole, hashAt, wordsAt, spellWords}
+use Rattle.words.specs.Record.{Whole, tagAt, wordsAt, spellWords}
 use Rattle.words.specs.declared.Words.{Words}
+use Rattle.words.specs.declared.Tag.{Tag}
 use Rattle.words.proofs.Parts.{words-there}
 use Rattle.words.proofs.Records.{words-spell, length-words}
 use Rattle.rules.specs.Rules.{same31, start, nextOf}
@@ -66,13 +67,13 @@ flags-same f g e = sym (flags-31 (verified g) (has (g .metadata))) ∙ sym (same
 -- ## The flags of the first file
 
 -- its numbers fit in their fields, because its row is a good one
-whole-first : (tag : List ℕ) (q : Place) (h : Row) (l : List FileBlock) (rs more : List Row) (f : FileBlock) (fs : List FileBlock) → l ≡ f ∷ fs
-    → Goes tag start (h ∷ (joined fileRows l ++ rs ++ more)) q → Whole (fileHeadRow f .words)
+whole-first : (four : Tag) (q : Place) (h : Row) (l : List FileBlock) (rs more : List Row) (f : FileBlock) (fs : List FileBlock) → l ≡ f ∷ fs
+    → Goes four start (h ∷ (joined fileRows l ++ rs ++ more)) q → Whole (fileHeadRow f .words)
 unfolding fileRows
-whole-first tag q h l rs more f fs e g =
-    let g₁ : Goes tag start (h ∷ (joined fileRows (f ∷ fs) ++ rs ++ more)) q = rw e at g in
-    let (a, g₂) = stepped tag start q h (joined fileRows (f ∷ fs) ++ rs ++ more) g₁ in
-    let (b, g₃) = stepped tag (nextOf start (h .words)) q (fileHeadRow f) _ g₂ in
+whole-first four q h l rs more f fs e g =
+    let g₁ : Goes four start (h ∷ (joined fileRows (f ∷ fs) ++ rs ++ more)) q = rw e at g in
+    let (a, g₂) = stepped four start q h (joined fileRows (f ∷ fs) ++ rs ++ more) g₁ in
+    let (b, g₃) = stepped four (nextOf start (h .words)) q (fileHeadRow f) _ g₂ in
     b .whole
 
 first-bytes : (l : List FileBlock) (f : FileBlock) (fs : List FileBlock) → l ≡ f ∷ fs → (rest : List ℕ) → take 48 (spellRows (joined fileRows l) ++ rest) ≡ spellWords (fileHeadRow f .words)
@@ -87,7 +88,7 @@ unfolding rowsOf fileSection
 first-flags tag bytes s f fs b o e h =
     let go = shard-go tag s b (o .spells .sound) in
     let w : Words = fileHeadRow f .words in
-    let k : Whole w = whole-first (hashAt tag 0) (go .last) (headerRow tag s) (s .files) (bookend ∷ []) (xorbSection s) f fs h (go .goes) in
+    let k : Whole w = whole-first (tagAt tag) (go .last) (headerRow tag s) (s .files) (bookend ∷ []) (xorbSection s) f fs h (go .goes) in
     let a : bytes ≡ inOrder (headBytes tag) endBytes (fileBytes s) (xorbBytes s) = sym (o .spells .spelled) ∙ bytes-are tag s e in
     let d : drop 48 bytes ≡ fileBytes s ++ (endBytes ++ (xorbBytes s ++ endBytes)) = ap (drop 48) a ∙ drop-at (headBytes tag) _ 48 (length-words _) in
     let r : wordsAt bytes 48 ≡ w = sym (words-there 48 bytes 48 0 48 (omega arith) (omega arith)) ∙ ap (λ (x : List ℕ). wordsAt (take 48 x) 0) d

@@ -22,7 +22,7 @@ use Rattle.rules.specs.declared.Verdict.the-variants as verdict
 use Rattle.layout.specs.Reach.{lastPlace}
 use Rattle.layout.specs.Scan.{foundIn, IsAccepted}
 use Rattle.layout.proofs.Last.{tag-size, tree-of}
-use Rattle.reader.proofs.Whole.{verdict-said}
+use Rattle.whole.proofs.Turns.{verdict-said}
 use Rattle.join.specs.Join.{Parted, joinedAt, joinedBytes, joinedLength, firstFlags, faultFor, answerFor, joinOf, bufferBy, bufferOf}
 use Rattle.join.specs.declared.Joined.{Joined}
 use Rattle.join.specs.declared.Joined.the-variants.{Wrote, Refused}

@@ -13,6 +13,7 @@ use Rattle.layout.specs.Scan.{foundIn, ifAccepted}
 use Rattle.layout.specs.Reach.{lastPlace}
 use Rattle.join.specs.declared.Joined.{Joined}
 use Rattle.join.specs.declared.Joined.the-variants.{Wrote, Refused}
+use Rattle.join.specs.declared.JoinedNumbers.{JoinedNumbers}
 
 -- ## The joined bytes
 
@@ -77,6 +78,11 @@ answerFor s t first second room =
 -- the first shard's refusal, the second's, one of the four, or how many bytes were written
 unfoldable pub joinOf : List ℕ → List ℕ → List ℕ → ℕ → Joined
 joinOf tag first second room = ifAccepted Refused (foundIn tag first .verdict) (λ s. ifAccepted Refused (foundIn tag second .verdict) (λ t. answerFor s t first second room))
+
+-- the paper's numbers for each case: so many bytes, or the refusal
+abbrev pub joinedNumbers : Joined → JoinedNumbers
+joinedNumbers (Wrote size) = record { wrote = size; at = 0; number = 0 }
+joinedNumbers (Refused refusal) = record { wrote = 0; at = refusal .at .0; number = refusal .number }
 
 -- ## The buffer
 

@@ -1,9 +1,9 @@
 // The two shards are judged where they stand, and the joined one is written once no check has failed.
 use crate::Joined;
-use reader::last_place;
 use rules::Place;
 use rules::Verdict;
 use rules::same_31;
+use whole::last_place;
 use words::Refusal;
 use words::Words;
 use words::number::u32_at;

@@ -19,6 +19,7 @@ use Rattle.layout.specs.Scan.{foundIn, ifAccepted}
 use Rattle.plan.specs.declared.Row.{Row}
 use Rattle.plan.specs.declared.Planned.{Planned}
 use Rattle.plan.specs.declared.Planned.the-variants as planned
+use Rattle.plan.specs.declared.PlannedNumbers.{PlannedNumbers}
 
 -- ## The rows
 
@@ -126,6 +127,11 @@ planOf tag shard file a b room = ifAccepted refused (foundIn tag shard .verdict)
 abbrev pub answerTo : Plan → Planned
 answerTo (fetch rows) = planned.Rows (length rows)
 answerTo (refused refusal) = planned.Refused refusal
+
+-- the paper's numbers for each case: so many rows, or the refusal
+abbrev pub plannedNumbers : Planned → PlannedNumbers
+plannedNumbers (planned.Rows n) = record { rows = n; at = 0; number = 0 }
+plannedNumbers (planned.Refused refusal) = record { rows = 0; at = refusal .at .0; number = refusal .number }
 
 -- the table: the rows, and those beyond them as they were; refused, no row changes
 abbrev pub tableTo : Plan → List Row → List Row

@@ -6,7 +6,7 @@ use rules::FileNumber;
 use words::Refusal;
 ghost use mathlib.Core.Path.{_≡_};
 ghost use lib.ListN.{length};
-ghost use Rattle.plan.specs.Plan.{planOf, answerTo, tableTo};
+ghost use Rattle.plan.specs.Plan.{planOf, answerTo, tableTo, plannedNumbers};
 
 mod drafts;
 mod files;
@@ -26,6 +26,33 @@ pub struct Row {
 pub enum Planned {
     Rows(usize),
     Refused(Refusal),
+}
+
+// The paper's numbers for what planning gives: so many rows were filled, or 0 and the refusal.
+#[repr(C)]
+pub struct PlannedNumbers {
+    pub rows: u64,
+    pub at: u64,
+    pub number: u32,
+}
+
+impl Planned {
+    pub fn numbers(self) -> PlannedNumbers
+        ensures { λ r. ⌜ r ≡ plannedNumbers self ⌝ }
+    {
+        match self {
+            Planned::Rows(n) => PlannedNumbers {
+                rows: n as u64,
+                at: 0,
+                number: 0,
+            },
+            Planned::Refused(refusal) => PlannedNumbers {
+                rows: 0,
+                at: refusal.at.0,
+                number: refusal.number,
+            },
+        }
+    }
 }
 
 // The bytes of a file from a up to but not including b.

@@ -4,7 +4,7 @@ use Rattle.host_blobs.proofs.mdb_blob_scan.Statement.{statement}
 use Rattle.host_blobs.proofs.mdb_blob_scan.Tie as tie
 
 returns : tie.Need-returns
-returns c = rw (c .scanned-out .ensures, c .before .scan .ensures)
+returns c = rw (c .numbers .ensures, c .before .scan .ensures)
 
 pub mdb-blob-scan-spec : {M : Type 1} → statement M
 mdb-blob-scan-spec = tie.close (tie.spec (λ c. λ κs. search needs) (λ c. λ κs. search needs) returns)

@@ -4,7 +4,7 @@ use Rattle.host_whole.proofs.mdb_audit.Statement.{statement}
 use Rattle.host_whole.proofs.mdb_audit.Tie as tie
 
 returns : tie.Need-returns
-returns c = rw (c .audited-out .ensures, c .before .audit .ensures)
+returns c = rw (c .numbers .ensures, c .before .audit .ensures)
 
 pub mdb-audit-spec : {M : Type 1} → statement M
 mdb-audit-spec = tie.close (tie.spec (λ c. λ κs. search needs) (λ c. λ κs. search needs) returns)

@@ -4,7 +4,7 @@ use Rattle.host_whole.proofs.mdb_find_file.Statement.{statement}
 use Rattle.host_whole.proofs.mdb_find_file.Tie as tie
 
 returns : tie.Need-returns
-returns c = rw (c .file-out .ensures, c .before .find-file .ensures)
+returns c = rw (c .numbers .ensures, c .before .find-file .ensures)
 
 pub mdb-find-file-spec : {M : Type 1} → statement M
 mdb-find-file-spec = tie.close (tie.spec (λ c. λ κs. search needs) (λ c. λ κs. search needs) returns)

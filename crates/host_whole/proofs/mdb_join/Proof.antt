@@ -6,7 +6,7 @@ use Rattle.host_whole.proofs.mdb_join.Tie as tie
 returns : tie.Need-returns
 returns c =
     let c1 = c .before .before .before in
-    (rw (c .joined-out .ensures, c1 .join .ensures .0), c1 .join .ensures .1)
+    (rw (c .numbers .ensures, c1 .join .ensures .0), c1 .join .ensures .1)
 
 pub mdb-join-spec : {M : Type 1} → statement M
 mdb-join-spec = tie.close (tie.spec (λ c. λ κs. search needs) (λ c. λ κs. search needs) (λ c. search needs) returns)

@@ -40,28 +40,27 @@ use denote.Triple.Spec.{Meets, tripleOf}
 use denote.Triple.Table.{entered, cited}
 use denote.Triple.Walked.{says, Stays, stay-none, stay-none-slice, gave-slice, walkOf, goes-none, goes-none-slice, goes-gave-slice, Walks, ends-at, walked, walk-meets}
 use denote.Exit.{yes}
-use Rattle.plan.specs.Plan.{planOf, answerTo, tableTo}
+use Rattle.plan.specs.Plan.{planOf, answerTo, plannedNumbers, tableTo}
 use Rattle.plan.specs.declared.Row.{Row}
 use Rattle.plan.specs.declared.Planned.{Planned}
+use Rattle.plan.specs.declared.PlannedNumbers.{PlannedNumbers}
 use Rattle.rules.specs.declared.FileNumber.{FileNumber}
-use Rattle.host.specs.Plans.{plannedOut}
-use Rattle.host.specs.declared.PlannedState.{PlannedState}
 use Rattle.plan.proofs.Locals.{typeIn}
 use Rattle.plan.proofs.Row as T
 use Rattle.plan.proofs.Planned as R
 use Rattle.plan.proofs.Planned.Laws as R′
 use Rattle.rules.proofs.FileNumber as K
 use Rattle.rules.proofs.FileNumber.Laws as K′
-use Rattle.host.proofs.PlannedState as S
-use Rattle.host.proofs.PlannedState.Laws as S′
+use Rattle.plan.proofs.PlannedNumbers as S
+use Rattle.plan.proofs.PlannedNumbers.Laws as S′
 use Rattle.plan.proofs.plan as plan
 use Rattle.plan.proofs.plan.Symbol as plan-def
 use Rattle.plan.proofs.plan.Symbol.{name as #plan·plan}
 use Rattle.plan.proofs.plan.Met as plan-thm
-use Rattle.host.proofs.plans.planned_out as out
-use Rattle.host.proofs.plans.planned_out.Symbol as out-def
-use Rattle.host.proofs.plans.planned_out.Symbol.{name as #host·planned-out}
-use Rattle.host.proofs.plans.planned_out.Met as out-thm
+use Rattle.plan.proofs.Planned.numbers as out
+use Rattle.plan.proofs.Planned.numbers.Symbol as out-def
+use Rattle.plan.proofs.Planned.numbers.Symbol.{name as #planned·numbers}
+use Rattle.plan.proofs.Planned.numbers.Met as out-thm
 use Rattle.host_whole.proofs.mdb_plan.Key.{name as #host-whole·mdb-plan}
 use Rattle.host_whole.proofs.mdb_plan as f
 use Rattle.host_whole.proofs.mdb_plan.Statement as stated
@@ -140,10 +139,10 @@ module _ {M : Type 1} (𝓤 : URA M) (H : Heap 𝓤) (A : Atoms 𝓤) (W : Given
   abbrev to-out : Planned → OutC 𝓤 H A at-mem run .Ghost
   to-out r = ((tt, tt, tt, (r, tt), (EL.vals R.the-type R′.the-laws r, tt)), tt)
 
-  out-said : (r : Planned) (z : PlannedState) → ent 𝓤 (ensured 𝓤 H A out.ended (out.clauses 𝓤 H A at-mem run) tt (r, tt) tt z) (fact 𝓤 (z ≡ plannedOut r))
-  out-said r z = exE 𝓤 _ (λ ws. snd∗ 𝓤 (sem 𝓤 H A (lasts out.ended tt (r, tt) ws)) (fact 𝓤 (z ≡ plannedOut r)))
+  out-said : (r : Planned) (z : PlannedNumbers) → ent 𝓤 (ensured 𝓤 H A out.ended (out.clauses 𝓤 H A at-mem run) tt (r, tt) tt z) (fact 𝓤 (z ≡ plannedNumbers r))
+  out-said r z = exE 𝓤 _ (λ ws. snd∗ 𝓤 (sem 𝓤 H A (lasts out.ended tt (r, tt) ws)) (fact 𝓤 (z ≡ plannedNumbers r)))
 
-  exits : (z : PlannedState) (zs : List Row) → (z ≡ plannedOut (answerTo (planOf (g .now) (s .now) n x y (length (t .now))))) × (zs ≡ tableTo (planOf (g .now) (s .now) n x y (length (t .now))) (t .now)) → length zs ≡ length (t .now)
+  exits : (z : PlannedNumbers) (zs : List Row) → (z ≡ plannedNumbers (answerTo (planOf (g .now) (s .now) n x y (length (t .now))))) × (zs ≡ tableTo (planOf (g .now) (s .now) n x y (length (t .now))) (t .now)) → length zs ≡ length (t .now)
       → Is S.the-row z (LL.vals S.the-type S′.the-laws z) → ent 𝓤 (⋆ 𝓤 H A (toks ∷ ‵ (finally T.the-row (t .name) zs) ∷ ‵ Tag ∷ ‵ Slice ∷ [])) (Post (LL.val S.the-type S′.the-laws z))
   exits z zs e len is =
       qed W (toks ∷ ‵ (finally T.the-row (t .name) zs) ∷ ‵ Tag ∷ ‵ Slice ∷ []) ∵
@@ -151,7 +150,7 @@ module _ {M : Type 1} (𝓤 : URA M) (H : Heap 𝓤) (A : Atoms 𝓤) (W : Given
       says ! e $ frame ! $ nothing ! $ move ! (1 ∷ 0 ∷ []) $ fjoin ! $ owned ! u64 (Is u64) (uint-makes 𝓤 H A W w64) y _ is-y $ fjoin ! $ owned ! u64 (Is u64) (uint-makes 𝓤 H A W w64) x _ is-x $ fjoin ! $ owned ! u32 (Is u32) (uint-makes 𝓤 H A W w32) n _ is-n $ fjoin ! $
       move ! (2 ∷ 0 ∷ []) $ fjoin ! $ move ! (1 ∷ 0 ∷ []) $ fjoin ! $ frame ! $ owned ! S.the-row (Is S.the-row) (LL.makes S.the-type S′.the-plain 𝓤 H A) z _ is $ done !
 
-  walk : (𝓣 : Tables 𝓤 H) → Triple 𝓤 (𝓣 .C #plan·plan) (PlanC 𝓤 H A at-mem run) → Triple 𝓤 (𝓣 .C #host·planned-out) (OutC 𝓤 H A at-mem run) → Is (ShrSlice (named 0) κt u8) g (vt ∷ []) → Is (ShrSlice (named 1) κ′ u8) s (v ∷ []) → Is (MutSlice (named 2) κ T.the-row) t (u ∷ [])
+  walk : (𝓣 : Tables 𝓤 H) → Triple 𝓤 (𝓣 .C #plan·plan) (PlanC 𝓤 H A at-mem run) → Triple 𝓤 (𝓣 .C #planned·numbers) (OutC 𝓤 H A at-mem run) → Is (ShrSlice (named 0) κt u8) g (vt ∷ []) → Is (ShrSlice (named 1) κ′ u8) s (v ∷ []) → Is (MutSlice (named 2) κ T.the-row) t (u ∷ [])
       → ent 𝓤 (onEntry 𝓤 H A f.signature (κt, (κ′, (κ, tt))) (qt, (q′, (q, tt))) args at) (WpFn 𝓤 H (𝓣 .C) (𝓣 .Λ) code.function (vt ∷ v ∷ vint w32 n ∷ vint w64 x ∷ vint w64 y ∷ u ∷ []) Post)
   walk 𝓣 known-plan known-out is-g is-s is-t =
       qed W (toks ∷ ‵ (owns (ShrSlice (named 0) κt u8 ∷ ShrSlice (named 1) κ′ u8 ∷ u32 ∷ u64 ∷ u64 ∷ MutSlice (named 2) κ T.the-row ∷ []) args at) ∷ []) ∵ enter ! (𝓣 .C) (𝓣 .Λ) code.function (vt ∷ v ∷ vint w32 n ∷ vint w64 x ∷ vint w64 y ∷ u ∷ []) _ $
@@ -175,15 +174,15 @@ module _ {M : Type 1} (𝓤 : URA M) (H : Heap 𝓤) (A : Atoms 𝓤) (W : Given
       nothing ! $ owned ! R.the-row (Is R.the-row) (EL.makes R.the-type R′.the-plain 𝓤 H A) r _ (EL.owes R.the-type R′.the-laws r (EL.owed R.the-type R′.the-laws r _ is)) $ fjoin ! $ nothing ! $
       use2 W (raw (OutC 𝓤 H A at-mem run .pre (to-out r))) (qed W (‵ ftrue ∷ ‵ (owns (R.the-row ∷ []) (r, tt) (EL.vals R.the-type R′.the-laws r, tt)) ∷ []) ∵ join ! $ frame ! $ done !) $
       calls-at ! (fmOf 𝓤 H (W .laws) 𝓣) (OutC 𝓤 H A at-mem run) known-out (to-out r) (and-then ! (load ! (from ! (stop !)) (look ! 16 refl)) (no-more !)) (λ w′.
-      use1 W (later (some (λ (z : PlannedState). (‵ ftrue ⊛ ‵ (S.the-row .own z (w′ ∷ []))) ⊛ raw (ensured 𝓤 H A out.ended (out.clauses 𝓤 H A at-mem run) tt (r, tt) tt z)))) (id⊢ 𝓤 _) $ await ! tt $ pick ! (λ z.
-      split ! $ move ! (1 ∷ []) $ use1 W (raw (fact 𝓤 (z ≡ plannedOut r))) (out-said r z) $ heard ! (z ≡ plannedOut r) (λ e′. split ! $ move ! (1 ∷ []) $
+      use1 W (later (some (λ (z : PlannedNumbers). (‵ ftrue ⊛ ‵ (S.the-row .own z (w′ ∷ []))) ⊛ raw (ensured 𝓤 H A out.ended (out.clauses 𝓤 H A at-mem run) tt (r, tt) tt z)))) (id⊢ 𝓤 _) $ await ! tt $ pick ! (λ z.
+      split ! $ move ! (1 ∷ []) $ use1 W (raw (fact 𝓤 (z ≡ plannedNumbers r))) (out-said r z) $ heard ! (z ≡ plannedNumbers r) (λ e′. split ! $ move ! (1 ∷ []) $
       peeks ! S.the-row (Is S.the-row) (shows 𝓤 H A S.the-row) z (w′ ∷ []) (λ is-z.
       land ! (from ! (stop !)) (init ! 31 refl (LL.lawful S.the-type S′.the-laws 𝓤 H A W .typed z _ is-z .0)) $ rewrite ! 31 (λ (y′ : Val). ‵ (fat fullShare (ty 0) l₀ 0 y′)) (ap only (LL.tells S.the-type S′.the-laws z _ is-z)) refl $
       returns ! (look ! 31 refl) $ forget ! 11 refl $ forget ! 13 refl $ forget ! 15 refl $ forget ! 17 refl $ forget ! 19 refl $ forget ! 21 refl $ forget ! 23 refl $ forget ! 25 refl $ forget ! 27 refl $ forget ! 29 refl $ forget ! 31 refl $
       move ! (31 ∷ 32 ∷ []) $ free1 ! $ move ! (29 ∷ 30 ∷ []) $ free1 ! $ move ! (27 ∷ 28 ∷ []) $ free1 ! $ move ! (25 ∷ 26 ∷ []) $ free1 ! $ move ! (23 ∷ 24 ∷ []) $ free1 ! $ move ! (21 ∷ 22 ∷ []) $ free1 ! $ move ! (19 ∷ 20 ∷ []) $ free1 ! $ move ! (17 ∷ 18 ∷ []) $ free1 ! $ move ! (15 ∷ 16 ∷ []) $ free1 ! $ move ! (13 ∷ 14 ∷ []) $ free1 ! $ move ! (11 ∷ 12 ∷ []) $ free1 ! $ free0 ! $
-      keep ! (3 ∷ 4 ∷ 5 ∷ 6 ∷ []) $ by ! (exits z (ws .1 .1 .1 .1 .1 .0) (e′ ∙ ap plannedOut (e .0), e .1) len (LL.owes S.the-type S′.the-laws z (LL.owed S.the-type S′.the-laws z _ is-z))))))))))))))))))))))))
+      keep ! (3 ∷ 4 ∷ 5 ∷ 6 ∷ []) $ by ! (exits z (ws .1 .1 .1 .1 .1 .0) (e′ ∙ ap plannedNumbers (e .0), e .1) len (LL.owes S.the-type S′.the-laws z (LL.owed S.the-type S′.the-laws z _ is-z))))))))))))))))))))))))
 
-module _ {M : Type 1} (𝓤 : URA M) (H : Heap 𝓤) (A : Atoms 𝓤) (W : Given 𝓤 H A) (mem : Memory → SProp 𝓤) (run : Routine → Fun 𝓤) (𝓣 : Tables 𝓤 H) (known-plan : Triple 𝓤 (𝓣 .C #plan·plan) (PlanC 𝓤 H A mem run)) (known-out : Triple 𝓤 (𝓣 .C #host·planned-out) (OutC 𝓤 H A mem run)) where
+module _ {M : Type 1} (𝓤 : URA M) (H : Heap 𝓤) (A : Atoms 𝓤) (W : Given 𝓤 H A) (mem : Memory → SProp 𝓤) (run : Routine → Fun 𝓤) (𝓣 : Tables 𝓤 H) (known-plan : Triple 𝓤 (𝓣 .C #plan·plan) (PlanC 𝓤 H A mem run)) (known-out : Triple 𝓤 (𝓣 .C #planned·numbers) (OutC 𝓤 H A mem run)) where
   mdb-plan-walks : Walks 𝓤 H A f.ended stayed (WpFn 𝓤 H (𝓣 .C) (𝓣 .Λ) code.function) (f.clauses 𝓤 H A mem run)
   mdb-plan-walks = walked 𝓤 H A f.ended stayed (f.clauses 𝓤 H A mem run) (WpFn 𝓤 H (𝓣 .C) (𝓣 .Λ) code.function) (λ κs. (slice-vals, (slice-vals, (uint-vals w32, (uint-vals w64, (uint-vals w64, (slice-vals, tt)))))))
       (λ κs. (shr-slice-tells (named 0) (κs .0) u8, (shr-slice-tells (named 1) (κs .1 .0) u8, (uint-tells w32, (uint-tells w64, (uint-tells w64, (mut-slice-tells (named 2) (κs .1 .1 .0) T.the-row, tt)))))))
@@ -202,4 +201,4 @@ mdb-plan-spec 𝓤 H 𝓜 𝓖 𝓡 =
     (tables 𝓤 H 𝓜 𝓡 code.env .C) (tables 𝓤 H 𝓜 𝓡 code.env .Λ) #host-whole·mdb-plan code.function (code.unfolded 𝓤 H 𝓜 𝓡)
     (mdb-plan-meets 𝓤 H (𝓖 .A) (givenOf 𝓤 H 𝓜 𝓖) (𝓜 .mem) (𝓡 .run) (tablesOf 𝓤 H 𝓜 (tables 𝓤 H 𝓜 𝓡 code.env))
     (cited 𝓤 H (PlanC 𝓤 H (𝓖 .A) (𝓜 .mem) (𝓡 .run)) 𝓜 𝓡 code.env #plan·plan plan-def.routine code.calls-plan·plan (plan-thm.met 𝓤 H 𝓜 𝓖 𝓡))
-    (cited 𝓤 H (OutC 𝓤 H (𝓖 .A) (𝓜 .mem) (𝓡 .run)) 𝓜 𝓡 code.env #host·planned-out out-def.routine code.calls-host·plans·planned-out (out-thm.met 𝓤 H 𝓜 𝓖 𝓡)))
+    (cited 𝓤 H (OutC 𝓤 H (𝓖 .A) (𝓜 .mem) (𝓡 .run)) 𝓜 𝓡 code.env #planned·numbers out-def.routine code.calls-plan·Planned·numbers (out-thm.met 𝓤 H 𝓜 𝓖 𝓡)))
