@@ -10,7 +10,7 @@ use Rattle.rules.specs.Rules.{faultOf, kindOf, recordOf, nextOf}
 use Rattle.rules.specs.Verdicts.{verdictAt}
 use Rattle.layout.specs.Quay.{tag, hash}
 use Rattle.layout.specs.Scan.{foundIn, scan}
-use Rattle.finder.specs.Find.{chunkIn, chunkFound, fileIn, fileFound, partAt}
+use Rattle.finder.specs.Find.{chunkBehind, chunkIn, chunkFound, fileIn, fileFound, partAt}
 use Rattle.finder.specs.declared.FoundChunk.{FoundChunk}
 use Rattle.finder.specs.declared.FoundChunk.the-variants as chunk
 use Rattle.finder.specs.declared.FoundFile.{FoundFile}
@@ -47,5 +47,5 @@ wrongs =
     ∷ []
 
 pub finder-refuted : Refuted wrongs
-unfolding chunkFound chunkIn fileFound fileIn partAt foundIn scan run push fill verdictAt faultOf kindOf recordOf nextOf leAt zerosAt spell spellHash spellWords
+unfolding chunkFound chunkIn chunkBehind fileFound fileIn partAt foundIn scan run push fill verdictAt faultOf kindOf recordOf nextOf leAt zerosAt spell spellHash spellWords
 finder-refuted = refuted wrongs refl

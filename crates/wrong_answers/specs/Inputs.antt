@@ -4,6 +4,7 @@ use mathlib.Core.Bool.{true}
 use mathlib.Core.List.{List, [], _∷_, _++_}
 use lib.ListN.{take, replicate}
 use Rattle.words.specs.declared.Words.{Words}
+use Rattle.words.specs.declared.Tag.{Tag}
 use Rattle.rules.specs.Rules.{movedTo, withOffset, withFooter, nothing, start}
 use Rattle.rules.specs.declared.Place.{Place}
 use Rattle.rules.specs.declared.Due.{Due}
@@ -11,14 +12,13 @@ use Rattle.rules.specs.declared.Due.the-variants.{Segment, Footer, End}
 use Rattle.layout.specs.Quay.{tag, hash, row, header, bookend, footer}
 use Rattle.reader.specs.Stream.{emptied}
 use Rattle.reader.specs.declared.Reader.{Reader}
-use Rattle.beside.specs.Beside.{bareOf}
-use Rattle.beside.specs.declared.Bare.{Bare}
 use Rattle.writer.specs.declared.Writer.{Writer}
 use Rattle.writer.specs.declared.Offer.{Offer}
 use Rattle.writer.specs.declared.Fields.{Fields}
 use Rattle.plan.specs.declared.Row.{Row}
 use Rattle.host.specs.declared.OfferState.{OfferState}
 use Rattle.host.specs.declared.PlaceState.{PlaceState}
+use Rattle.host.specs.declared.StandState.{StandState}
 
 -- ## Numbers of records
 
@@ -62,14 +62,15 @@ atFooter = withFooter true (withOffset 96 (here 144 Footer))
 abbrev pub tagShort : List ℕ
 tagShort = take 31 tag
 
-abbrev pub reader : Place → Reader
-reader p = emptied hash p
+-- a tag of the hash's numbers
+abbrev pub four : Tag
+four = record { 0 = hash }
 
-abbrev pub bare : Place → Bare
-bare p = bareOf (emptied hash p)
+abbrev pub reader : Place → Reader
+reader p = emptied four p
 
 abbrev pub writer : Place → Writer
-writer p = record { tag = hash; place = p }
+writer p = record { tag = four; place = p }
 
 abbrev pub offer : Fields → Offer
 offer f = record { hash = hash; fields = f }
@@ -87,6 +88,26 @@ placeWith code left = record {
   entries = 0;
   footer = 2;
   have = 7;
+}
+
+-- a reader or a writer that stands there
+abbrev pub standWith : ℕ → ℕ → StandState
+standWith code left = record { tag = hash; place = placeWith code left }
+
+-- a struct of zeros
+abbrev pub blank : StandState
+blank = record {
+  tag = replicate 4 0;
+  place = record {
+    at = 0;
+    offset = 0;
+    totals = record { files = 0; segments = 0; xorbs = 0; chunks = 0; bytes = 0 };
+    due = record { sum = 0; total = 0; code = 0; left = 0 };
+    flags = 0;
+    entries = 0;
+    footer = 0;
+    have = 0;
+  };
 }
 
 -- an offer of this kind

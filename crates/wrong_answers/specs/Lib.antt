@@ -4,7 +4,6 @@ pub mod Inputs
 pub mod Words
 pub mod Rules
 pub mod Reader
-pub mod Beside
 pub mod Writer
 pub mod Finder
 pub mod Join

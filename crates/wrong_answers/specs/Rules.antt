@@ -12,10 +12,9 @@ use Rattle.rules.specs.declared.Place.{Place}
 use Rattle.rules.specs.declared.Kind.the-variants as kind
 use Rattle.rules.specs.declared.Due.the-variants as due
 use Rattle.rules.specs.declared.Verdict.the-variants as verdict
-use Rattle.layout.specs.Quay.{hash}
 use Rattle.wrong_answers.specs.Wrong.{Wrong, _not_by_, Refuted, refuted}
 use Rattle.wrong_answers.specs.Told.{number, truth, dueTold, verdictTold}
-use Rattle.wrong_answers.specs.Inputs.{words, onesWords, flag31, flag30, here, atEnd, atSegment, atFooter}
+use Rattle.wrong_answers.specs.Inputs.{words, onesWords, flag31, flag30, four, here, atEnd, atSegment, atFooter}
 
 -- where a second file head is due, the first file having had no flags
 abbrev atSecondFile : Place
@@ -33,20 +32,20 @@ abbrev wrongs : List Wrong
 wrongs =
     -- ## `Place::fault`
     -- a head need not leave room for what must follow
-    (faultOf hash (here 48 due.FileHead) (words 0 349523 0 0) not 0 by number)
+    (faultOf four (here 48 due.FileHead) (words 0 349523 0 0) not 0 by number)
     -- entries times 48 in 32 bits
-    ∷ (faultOf hash (here 48 due.FileHead) (words 0 89478486 0 0) not 0 by number)
+    ∷ (faultOf four (here 48 due.FileHead) (words 0 89478486 0 0) not 0 by number)
     -- chunk lengths added in 32 bits
-    ∷ (faultOf hash atLastChunk (words 4294967295 1 0 0) not 0 by number)
+    ∷ (faultOf four atLastChunk (words 4294967295 1 0 0) not 0 by number)
     -- bit 30 compared instead of bit 31
-    ∷ (faultOf hash atSecondFile (words flag31 0 0 0) not 0 by number)
-    ∷ (faultOf hash atSecondFile (words flag30 0 0 0) not 9 by number)
+    ∷ (faultOf four atSecondFile (words flag31 0 0 0) not 0 by number)
+    ∷ (faultOf four atSecondFile (words flag30 0 0 0) not 9 by number)
     -- a bookend by its hash only
-    ∷ (faultOf hash (here 48 due.FileHead) (onesWords 1) not 0 by number)
+    ∷ (faultOf four (here 48 due.FileHead) (onesWords 1) not 0 by number)
     -- a chunk that starts anywhere
-    ∷ (faultOf hash (here 144 (due.Chunk 1 0 10)) (words 5 10 0 0) not 0 by number)
+    ∷ (faultOf four (here 144 (due.Chunk 1 0 10)) (words 5 10 0 0) not 0 by number)
     -- all ones in a chunk taken for a bookend
-    ∷ (faultOf hash (here 144 (due.Chunk 1 0 0)) (onesWords 1) not 8 by number)
+    ∷ (faultOf four (here 144 (due.Chunk 1 0 0)) (onesWords 1) not 8 by number)
     -- ## `Place::footer_fault`
     -- the xorb offset trusted
     ∷ (footerFault atFooter (foot 1 48 true) not 0 by number)

@@ -8,7 +8,6 @@ use lib.Seq.{paste}
 use Rattle.words.specs.Le.{leAt, puts, spell, zerosAt}
 use Rattle.words.specs.Record.{spellHash, spellWords, footerAt, sameHash, isOnes}
 use Rattle.rules.specs.Rules.{wordsIn}
-use Rattle.carry.specs.Carry.{carryIn}
 use Rattle.layout.specs.Quay.{hash}
 use Rattle.wrong_answers.specs.Wrong.{Wrong, _not_by_, Refuted, refuted}
 use Rattle.wrong_answers.specs.Told.{number, numbers, truth}
@@ -45,7 +44,7 @@ wrongs =
     -- `missing`: what the carry has is not taken off
     ∷ (48 - 10 not 48 by number)
     -- `hear`: a byte in the carry is passed over
-    ∷ (wordsIn atSegment (paste (carryIn goodSegment 1) 1 (drop 1 goodSegment) 47) .hash not wordsIn atSegment (drop 1 goodSegment ++ zeros 1) .hash by numbers)
+    ∷ (wordsIn atSegment (paste (take 1 goodSegment ++ zeros 199) 1 (drop 1 goodSegment) 47) .hash not wordsIn atSegment (drop 1 goodSegment ++ zeros 1) .hash by numbers)
     ∷ []
 
 pub words-refuted : Refuted wrongs

@@ -12,15 +12,14 @@ use Rattle.rules.specs.declared.Place.{Place}
 use Rattle.rules.specs.declared.Kind.the-variants as kind
 use Rattle.rules.specs.declared.Due.the-variants as due
 use Rattle.rules.specs.declared.Verdict.the-variants as verdict
-use Rattle.layout.specs.Quay.{hash}
 use Rattle.writer.specs.Offers.{kindOffered, wordsOf, fieldsOf, offerOf}
-use Rattle.writer.specs.Write.{bytesOf, answerOf, writtenOf, bufferOf, fresh, verdictOf}
+use Rattle.writer.specs.Write.{bytesOf, answerOf, wroteBy, refusalBy, writtenOf, bufferOf, fresh, verdictOf}
 use Rattle.writer.specs.declared.Offer.{Offer}
 use Rattle.writer.specs.declared.Fields.the-variants as fields
 use Rattle.writer.specs.declared.Answer.the-variants as answer
 use Rattle.wrong_answers.specs.Wrong.{Wrong, _not_by_, Refuted, refuted}
 use Rattle.wrong_answers.specs.Told.{number, numbers, dueTold, verdictTold, answerTold, fieldsTold}
-use Rattle.wrong_answers.specs.Inputs.{words, here, atEnd, atFooter, tagShort, writer, offer, zeros}
+use Rattle.wrong_answers.specs.Inputs.{words, four, here, atEnd, atFooter, tagShort, writer, offer, zeros}
 
 abbrev atFileHead : Place
 atFileHead = here 48 due.FileHead
@@ -42,9 +41,9 @@ wrongs =
     ∷ (rowOf (kindOffered (offer fields.Verification)) not rowOf kind.Metadata by number)
     -- ## `Offer::words`
     -- version 1
-    ∷ (wordsOf hash (offer (fields.Header 200)) .a not 1 by number)
+    ∷ (wordsOf four (offer (fields.Header 200)) .a not 1 by number)
     -- a chunk's numbers exchanged
-    ∷ (wordsOf hash (offer (fields.Chunk 3 7)) .a not 7 by number)
+    ∷ (wordsOf four (offer (fields.Chunk 3 7)) .a not 7 by number)
     -- ## `Fields::of`
     -- the version as the footer size
     ∷ (fieldsOf (recordOf start (words 2 0 200 0)) not fields.Header 2 by fieldsTold)
@@ -75,6 +74,14 @@ wrongs =
     ∷ (bufferOf (writer atFooter) (offer (fields.Footer 0 0)) (zeros 200) not spellFooter 144 144 (words 0 0 0 0) by numbers)
     -- a buffer that is too short for the record
     ∷ (answerOf (writer atFooter) (offer (fields.Footer 0 0)) 199 not answer.Wrote 200 by answerTold)
+    -- ## `Answer::wrote` and `Answer::refusal`
+    -- no byte written
+    ∷ (wroteBy (answer.Wrote 48) not 0 by number)
+    -- a refused offer said to have been written
+    ∷ (wroteBy (answer.Refused (refusalAt 16 atFileHead)) not 48 by number)
+    -- a refusal's number lost; its position lost
+    ∷ (refusalBy (answer.Refused (refusalAt 16 atFileHead)) .number not 0 by number)
+    ∷ (refusalBy (answer.Refused (refusalAt 16 atFileHead)) .at .0 not 0 by number)
     -- ## `Writer::verdict`
     -- always 1
     ∷ (verdictOf (writer atEnd) not verdict.Refused (refusalAt 1 atEnd) by verdictTold)
