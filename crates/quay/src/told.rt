@@ -9,6 +9,7 @@ use trial::again::Copying;
 use trial::pieces::in_one;
 use trial::pieces::in_pieces;
 use trial::pieces::same_verdict;
+use trial::rows::in_rows;
 
 pub fn verdict_said(v: Verdict) {
     match v {
@@ -28,9 +29,10 @@ pub fn again_said(same: bool) {
     }
 }
 
-// Whether the verdict is the same in pieces of so many bytes.
+// Whether the verdict is the same in pieces of so many bytes, step by step and into rows.
 fn same_by(tag: &[u8], bytes: &[u8], verdict: Verdict, size: usize) -> bool {
     same_verdict(verdict, in_pieces(tag, bytes, [size; 7]))
+        & same_verdict(verdict, in_rows(tag, bytes, [size; 7]))
 }
 
 // Whether it is the same in pieces of every size tried, and from the judge of the whole.
@@ -40,6 +42,7 @@ fn same_said(tag: &[u8], bytes: &[u8], verdict: Verdict) {
         & same_by(tag, bytes, verdict, 48)
         & same_by(tag, bytes, verdict, 49);
     let whole = same_by(tag, bytes, verdict, 100)
+        & same_by(tag, bytes, verdict, 512)
         & same_verdict(verdict, reader::judge(tag, bytes));
     if small & record & whole {
         say(b" same");

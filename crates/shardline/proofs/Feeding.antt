@@ -9,7 +9,7 @@ use lib.ListN.{length, take, drop, length-drop, drop-of-length-le}
 use lib.Seq.{getD-drop, take-all, drop-drop}
 use Rattle.words.specs.Le.{Bytes}
 use Rattle.words.proofs.Numbers.{bytes-none}
-use Rattle.words.specs.Record.{hashAt}
+use Rattle.words.specs.Record.{tagAt}
 use Rattle.cut.specs.Format.{Run}
 use Rattle.cut.proofs.Runs.{run-nil}
 use Rattle.rules.specs.Rules.{sizeOf}
@@ -53,12 +53,12 @@ refuses-there r n l (verdict.Accepted summary) = rw (ne-eqb n 0 (λ e. omega ari
 fed-refused : (r : Reader) → Begun r → (piece : List ℕ) → 0 < length piece → stepOf r piece .answer .taken ≡ 0 → fedOne r piece .reader ≡ stepOf r piece .reader
 unfolding offers
 fed-refused r b piece l e =
-    let z : sizeOf (r .place) ≡ 0 = none (sizeOf (r .place)) refl in
-    let t = refuses-there r (length piece) l (verdictAt (r .place)) in
+    let z : sizeOf (r .stand .place) ≡ 0 = none (sizeOf (r .stand .place)) refl in
+    let t = refuses-there r (length piece) l (verdictAt (r .stand .place)) in
     let k = reader .refused r piece .stays (t .0) (rw (step-none r piece z) (t .1)) in
     stays-so (stepOf r piece .reader) (λ later. ap (λ (s : Step). s .reader) (k later)) (length piece) (drop (stepOf r piece .answer .taken) piece)
   where
-    none : (n : ℕ) → sizeOf (r .place) ≡ n → sizeOf (r .place) ≡ 0
+    none : (n : ℕ) → sizeOf (r .stand .place) ≡ n → sizeOf (r .stand .place) ≡ 0
     none zero f = f
     none (suc n) f = absurd (omega (arith, reader .takes r b piece (omega (arith, f)) l))
 
@@ -66,7 +66,7 @@ fed-refused r b piece l e =
 fed-none : (r : Reader) → Begun r → fedOne r [] .reader ≡ r
 fed-none r b =
     let k = stands b in
-    let f = format (hashAt (k .tag) 0) in
+    let f = format (tagAt (k .tag)) in
     rw (k .same) (ap (λ (s : Seen). s .reader) (offers-run (k .tag) 1 (k .state) [] (k .standing) bytes-none (omega arith))
     ∙ ap (λ (x : Run Place Record Place). seenOf (tagIn (k .tag)) x .reader) (run-nil f (k .state)))
 

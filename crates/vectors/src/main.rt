@@ -1,5 +1,5 @@
 // Judges the cases on standard input, one after the other, and writes one line for each. A case is one byte T, T bytes of tag, four bytes N
-// (little-endian) and N bytes of shard. Each shard is read in one piece, again in small ones, and judged whole.
+// (little-endian) and N bytes of shard. Each shard is read in one piece, again in small ones, again into rows, and judged whole.
 use text::say;
 use trial::cases::SHARD_MOST;
 use trial::cases::TAG_MOST;
@@ -9,6 +9,7 @@ use trial::cases::short_part;
 use trial::pieces::in_one;
 use trial::pieces::in_pieces;
 use trial::pieces::same_verdict;
+use trial::rows::in_rows;
 use trial::told::verdict_told;
 
 // One case, read in every way that there is.
@@ -18,6 +19,10 @@ fn judged(tag: &[u8], shard: &[u8]) {
     let cut = in_pieces(tag, shard, [1, 5, 47, 48, 49, 96, 200]);
     if !same_verdict(verdict, cut) {
         say(b" (pieces differ)");
+    }
+    let rows = in_rows(tag, shard, [1, 5, 47, 48, 49, 96, 500]);
+    if !same_verdict(verdict, rows) {
+        say(b" (rows differ)");
     }
     if !same_verdict(verdict, reader::judge(tag, shard)) {
         say(b" (the judge differs)");
