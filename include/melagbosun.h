@@ -2,13 +2,14 @@
  * `./archive` makes the library, target/staticlib/libmelagbosun.a (x86-64); link it with
  * `cc program.c -Iinclude -Ltarget/staticlib -lmelagbosun`.
  *
- * No call keeps, allocates or frees anything: a state goes in by value and the next one comes back in the answer. A lent
- * slice is a pointer and a length; an empty one may have any pointer but NULL, and one that is written overlaps no other of
- * the same call.
+ * No call keeps, allocates or frees anything. A host keeps a reader or a writer, one struct without pointers in it, and lends it by
+ * its address; the call changes it in place. To copy the struct is to copy the reader. A lent slice is a pointer and a length; an
+ * empty one may have any pointer but NULL. Of what is lent to one call, a thing that is written, be it a struct or a slice, overlaps
+ * no other.
  *
  * Each function is proved to answer, for every state and all bytes, what crates/host/specs says, by way of the specs of
  * reader, writer, finder, join, plan, audit and blobs. A state that was not given out by these functions still gets an answer and
- * touches nothing but the lent bytes.
+ * touches nothing but what is lent; only one that stands at the end is told as accepted.
  */
 #ifndef MELAGBOSUN_H
 #define MELAGBOSUN_H
@@ -38,10 +39,9 @@ enum mdb_refusal {
     MDB_FOOTER_VERSION = 12, /* footer: the version is not 1 */
     MDB_OFFSET = 13,         /* footer: one of the three offsets is wrong */
     MDB_AFTER_END = 14,      /* a byte follows the end; position of that byte */
-    MDB_BUFFER = 15,         /* writer: the buffer is shorter than the record; reader: the carry is shorter than MDB_CARRY, or the
-                                table than a row; join: the buffer is shorter than the result, position 0; plan: the table
-                                has fewer rows than are needed, position 0; writing an entry: the buffer is shorter than its 110
-                                bytes and the data, position 0 */
+    MDB_BUFFER = 15,         /* writer: the buffer is shorter than the record; join: the buffer is shorter than the result,
+                                position 0; plan: the table has fewer rows than are needed, position 0; writing an entry: the
+                                buffer is shorter than its 110 bytes and the data, position 0 */
     MDB_NOT_DUE = 16,        /* writer: this kind of record is not due now, or there is no such kind */
     MDB_NO_FILE = 17,        /* plan: the shard has no file of that number; position 0 */
     MDB_RANGE = 18,          /* plan: a is not below b, or b is past the file's end; position 0 */
@@ -53,7 +53,9 @@ enum mdb_refusal {
                                 digits, position 0 */
     MDB_BLOB_RESERVED = 28,  /* entry: one of the 32 reserved bytes is not 0 */
     MDB_BLOB_DATA = 29,      /* entry: its data end past the buffer's end */
-    MDB_HAS_FOOTER = 30      /* join: one of the shards has a footer; position 0 */
+    MDB_HAS_FOOTER = 30,     /* join: one of the shards has a footer; position 0 */
+    MDB_STATE = 255          /* reader, writer: a state that no call gave out, as one that was never begun; the state's own
+                                position */
 };
 
 /* The kinds of record, in the order of the paper's table. */
@@ -71,7 +73,8 @@ typedef struct {
 
 typedef struct {
     uint64_t sum, total; /* of a chunk: the bytes before it, and the head's bytes in xorb */
-    uint32_t code; /* 0 header, 1 file head, 2 segment, 3 verification, 4 metadata, 5 xorb head, 6 chunk, 7 footer, 8 the end, 9 refused */
+    uint32_t code; /* its row in the paper's table, from 1: 1 header, 2 file head, 3 segment, 4 verification, 5 metadata, 6 xorb
+                      head, 7 chunk, 9 footer; 10 the end, 11 refused. Any other code, and 11 with 0 left, is MDB_STATE */
     uint32_t left; /* the records of this kind that are left; of a refusal its number */
 } mdb_due;
 
@@ -85,14 +88,14 @@ typedef struct {
     uint32_t have;           /* of a reader: how many bytes its carry has; of a writer: 0 */
 } mdb_place;
 
-/* A reader does not hold the bytes so far of the record due: its carry, MDB_CARRY bytes, is lent to each call beside it. What
- * stands in the carry at first makes no difference; between two calls it must be left as it is. */
-enum { MDB_CARRY = 200 };
+/* A reader between two calls. It is for its host to keep and to lend, not to change. */
 typedef struct {
     uint64_t tag[4];
     mdb_place place;
+    uint8_t carry[200]; /* the bytes so far of the record due, place.have of them, then zeros; all are zero after a whole record */
 } mdb_reader;
 
+/* A writer between two calls. */
 typedef struct {
     uint64_t tag[4];
     mdb_place place;
@@ -115,21 +118,19 @@ typedef struct {
 } mdb_verdict;
 
 typedef struct {
-    mdb_reader reader; /* for the next call */
-    mdb_record found;  /* all zeros unless said is MDB_RECORD */
-    uint64_t taken;    /* bytes taken of the piece: offer the rest again */
-    uint64_t at;       /* position of the refusal, else 0 */
-    uint32_t said;     /* enum mdb_said */
-    uint32_t number;   /* enum mdb_refusal, else 0 */
+    mdb_record found; /* all zeros unless said is MDB_RECORD */
+    uint64_t taken;   /* bytes taken of the piece: offer the rest again */
+    uint64_t at;      /* position of the refusal, else 0 */
+    uint32_t said;    /* enum mdb_said */
+    uint32_t number;  /* enum mdb_refusal, else 0 */
 } mdb_step;
 
 typedef struct {
-    mdb_reader reader; /* for the next call */
-    uint64_t taken;    /* bytes taken of the piece */
-    uint64_t count;    /* rows filled, from the table's start */
-    uint64_t at;       /* position of the refusal, else 0 */
-    uint32_t said;     /* MDB_NOTHING: the piece is used up; MDB_RECORD: the table is full, offer the rest again; MDB_REFUSED */
-    uint32_t number;   /* enum mdb_refusal, else 0 */
+    uint64_t taken;  /* bytes taken of the piece */
+    uint64_t count;  /* rows filled, from the table's start */
+    uint64_t at;     /* position of the refusal, else 0 */
+    uint32_t said;   /* MDB_NOTHING: the piece is used up; MDB_RECORD: the table is full, offer the rest again; MDB_REFUSED */
+    uint32_t number; /* enum mdb_refusal, else 0 */
 } mdb_read;
 
 typedef struct {
@@ -168,10 +169,9 @@ typedef struct {
 } mdb_offer;
 
 typedef struct {
-    mdb_writer writer; /* for the next call; as it was if refused */
-    uint64_t wrote;    /* bytes written at the start of the buffer; 0: refused, and no byte changed */
-    uint64_t at;       /* position of the refusal, else 0 */
-    uint32_t number;   /* enum mdb_refusal, else 0 */
+    uint64_t wrote;  /* bytes written at the start of the buffer; 0: refused, and no byte changed */
+    uint64_t at;     /* position of the refusal, else 0 */
+    uint32_t number; /* enum mdb_refusal, else 0 */
 } mdb_written;
 
 typedef struct {
@@ -272,30 +272,31 @@ mdb_blob_scanned mdb_blob_scan(const uint8_t *buffer, size_t length);
 mdb_reader mdb_reader_new(const uint8_t *tag, size_t length);
 
 /* One call: it takes the smaller of the piece's length and the bytes missing from the record due, and hands out at most one
- * record. After a refusal every call takes nothing and repeats it. Of the carry only its first `have` bytes are looked at, and
- * only those that it has after the call are written. A carry that is too short is refused with 15 where the reader stands; that
- * reader has not refused, and nothing was taken. */
-mdb_step mdb_reader_step(mdb_reader state, uint8_t *carry, size_t carry_length, const uint8_t *piece, size_t length);
+ * record. After a refusal every call takes nothing and repeats it. */
+mdb_step mdb_reader_step(mdb_reader *reader, const uint8_t *piece, size_t length);
 
 /* A whole piece: calls of mdb_reader_step until it is used up or refused or the table is full. Each record found fills a row of
  * MDB_ROW numbers: kind, at, offset, hash[0] to hash[3], a + 2^32 b, c + 2^32 d. No other number of the table changes. `length`
- * and `numbers` count the piece's bytes and the table's numbers. A table shorter than a row is refused as a carry that is too
- * short. */
+ * and `numbers` count the piece's bytes and the table's numbers. A table shorter than a row is full from the start: nothing is taken,
+ * and nothing is refused but by a reader that has refused before. With (length + 200) / 48 + 1 rows the table is never full. */
 enum { MDB_ROW = 9 };
-mdb_read mdb_reader_read(mdb_reader state, uint8_t *carry, size_t carry_length, const uint8_t *piece, size_t length,
-                         uint64_t *table, size_t numbers);
+mdb_read mdb_reader_read(mdb_reader *reader, const uint8_t *piece, size_t length, uint64_t *table, size_t numbers);
 
 /* The refusal if there was one, the counts after the end, else 1 at the record due. Asking changes nothing. */
-mdb_verdict mdb_reader_verdict(mdb_reader state);
+mdb_verdict mdb_reader_verdict(const mdb_reader *reader);
 
 /* A fresh writer. A tag that is not 32 bytes gives one that answers 2 to everything. */
 mdb_writer mdb_writer_new(const uint8_t *tag, size_t length);
 
-/* One record, at the start of the buffer. Only the record's own bytes change. */
-mdb_written mdb_writer_put(mdb_writer state, mdb_offer offer, uint8_t *buffer, size_t length);
+/* One record, at the start of the buffer. Only the record's own bytes change. A refusal leaves the writer where it stands. */
+mdb_written mdb_writer_put(mdb_writer *writer, mdb_offer offer, uint8_t *buffer, size_t length);
 
 /* The reader's verdict where the writer stands. */
-mdb_verdict mdb_writer_verdict(mdb_writer state);
+mdb_verdict mdb_writer_verdict(const mdb_writer *writer);
+
+/* The offer that makes a writer write a record that was read: hash, kind, a, b, c and d as they are; x is c + 2^32 d of a header and
+ * a + 2^32 b of any other, y is c + 2^32 d. */
+mdb_offer mdb_offer_of(mdb_record record);
 
 #ifdef __cplusplus
 }

@@ -1,4 +1,4 @@
-//! Links `libmelagbosun.a` from the folder `MELAGBOSUN_LIB`, or from `../target/staticlib`.
+//! Links `libmelagbosun.a` from the folder `MELAGBOSUN_LIB`, or from `../target/staticlib`; tests find its name in `MELAGBOSUN_FOLDER`.
 
 use std::path::PathBuf;
 use std::{env, fs};
@@ -24,6 +24,7 @@ fn main() {
             let folder = path.parent().unwrap_or(&folder).display();
             println!("cargo::rustc-link-search=native={folder}");
             println!("cargo::rustc-link-lib=static=melagbosun");
+            println!("cargo::rustc-env=MELAGBOSUN_FOLDER={folder}");
         }
     }
 }

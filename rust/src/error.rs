@@ -7,7 +7,7 @@ use std::fmt;
 /// Why a shard, a tag, an offer, a join, a plan, an audit or an entry of a blob file was refused, and where.
 #[derive(Clone, Copy, Debug, PartialEq, Eq, Hash)]
 pub struct Refusal {
-    /// The number, 1 to 18, 22 or 24 to 30.
+    /// The number: 1 to 18, 22, 24 to 30 or 255. This crate begins every reader and every writer, so 255 can't come from it.
     pub number: u32,
     /// Where the record or the entry starts that is at fault or missing; of 14 the first byte too many, of 15 and 16 where the
     /// writer stands. Of accepted shards that can't be joined, or planned from as asked, and of an entry that can't be written, it
@@ -45,6 +45,7 @@ impl Refusal {
             28 => "a reserved byte of the entry is not 0",
             29 => "the entry's data go past the end of the buffer",
             30 => "a shard to be joined has a footer",
+            255 => "the reader or writer is in a state that no call gave out",
             _ => "the refusal has no known number",
         }
     }

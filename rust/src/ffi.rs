@@ -5,7 +5,7 @@ use crate::FetchRow;
 use std::mem::MaybeUninit;
 use std::ptr;
 
-#[derive(Clone, Copy, Debug)]
+#[derive(Clone, Copy, Debug, Default, PartialEq)]
 #[repr(C)]
 pub struct Totals {
     pub files: u64,
@@ -15,43 +15,44 @@ pub struct Totals {
     pub bytes: u64,
 }
 
-#[derive(Clone, Copy, Debug)]
+#[derive(Clone, Copy, Debug, Default, PartialEq)]
 #[repr(C)]
 pub struct Due {
-    sum: u64,
-    total: u64,
-    code: u32,
-    left: u32,
+    pub sum: u64,
+    pub total: u64,
+    pub code: u32,
+    pub left: u32,
 }
 
-#[derive(Clone, Copy, Debug)]
+#[derive(Clone, Copy, Debug, Default, PartialEq)]
 #[repr(C)]
 pub struct Place {
-    at: u64,
-    offset: u64,
-    totals: Totals,
-    due: Due,
-    flags: u32,
-    entries: u32,
-    footer: u32,
-    have: u32,
+    pub at: u64,
+    pub offset: u64,
+    pub totals: Totals,
+    pub due: Due,
+    pub flags: u32,
+    pub entries: u32,
+    pub footer: u32,
+    pub have: u32,
 }
 
-#[derive(Clone, Copy, Debug)]
+#[derive(Clone, Copy, Debug, PartialEq)]
 #[repr(C)]
 pub struct Reader {
-    tag: [u64; 4],
-    place: Place,
+    pub tag: [u64; 4],
+    pub place: Place,
+    pub carry: [u8; 200],
 }
 
-#[derive(Clone, Copy, Debug)]
+#[derive(Clone, Copy, Debug, PartialEq)]
 #[repr(C)]
 pub struct Writer {
-    tag: [u64; 4],
-    place: Place,
+    pub tag: [u64; 4],
+    pub place: Place,
 }
 
-#[derive(Clone, Copy, Debug)]
+#[derive(Clone, Copy, Debug, PartialEq)]
 #[repr(C)]
 pub struct Record {
     pub hash: [u64; 4],
@@ -64,7 +65,7 @@ pub struct Record {
     pub d: u32,
 }
 
-#[derive(Clone, Copy, Debug)]
+#[derive(Clone, Copy, Debug, PartialEq)]
 #[repr(C)]
 pub struct Verdict {
     pub length: u64,
@@ -77,7 +78,6 @@ pub struct Verdict {
 #[derive(Clone, Copy, Debug)]
 #[repr(C)]
 pub struct Step {
-    pub reader: Reader,
     pub found: Record,
     pub taken: u64,
     pub at: u64,
@@ -88,7 +88,6 @@ pub struct Step {
 #[derive(Clone, Copy, Debug)]
 #[repr(C)]
 pub struct Read {
-    pub reader: Reader,
     pub taken: u64,
     pub count: u64,
     pub at: u64,
@@ -112,7 +111,6 @@ pub struct Offer {
 #[derive(Clone, Copy, Debug)]
 #[repr(C)]
 pub struct Written {
-    pub writer: Writer,
     pub wrote: u64,
     pub at: u64,
     pub number: u32,
@@ -200,34 +198,25 @@ pub struct BlobScanned {
 pub const NOTHING: u32 = 0;
 pub const FOUND: u32 = 1;
 
-/// The bytes that are lent beside a reader: those so far of the record due.
-pub type Carry = [u8; 200];
-
 /// A row of the table that [`reader_read`] fills: kind, at, offset, the hash, a and b, c and d.
 pub type Row = [u64; 9];
 
 extern "C" {
     fn mdb_reader_new(tag: *const u8, length: usize) -> Reader;
-    fn mdb_reader_step(
-        state: Reader,
-        carry: *mut u8,
-        carry_length: usize,
-        piece: *const u8,
-        length: usize,
-    ) -> Step;
+    fn mdb_reader_step(reader: *mut Reader, piece: *const u8, length: usize) -> Step;
     fn mdb_reader_read(
-        state: Reader,
-        carry: *mut u8,
-        carry_length: usize,
+        reader: *mut Reader,
         piece: *const u8,
         length: usize,
         table: *mut u64,
-        table_length: usize,
+        numbers: usize,
     ) -> Read;
-    fn mdb_reader_verdict(state: Reader) -> Verdict;
+    fn mdb_reader_verdict(reader: *const Reader) -> Verdict;
     fn mdb_writer_new(tag: *const u8, length: usize) -> Writer;
-    fn mdb_writer_put(state: Writer, offer: Offer, buffer: *mut u8, length: usize) -> Written;
-    fn mdb_writer_verdict(state: Writer) -> Verdict;
+    fn mdb_writer_put(writer: *mut Writer, offer: Offer, buffer: *mut u8, length: usize)
+        -> Written;
+    fn mdb_writer_verdict(writer: *const Writer) -> Verdict;
+    fn mdb_offer_of(record: Record) -> Offer;
     fn mdb_judge(tag: *const u8, tag_length: usize, shard: *const u8, length: usize) -> Verdict;
     fn mdb_find_chunk(
         tag: *const u8,
@@ -283,36 +272,24 @@ pub fn reader_new(tag: &[u8]) -> Reader {
 }
 
 #[inline]
-pub fn reader_step(state: Reader, carry: &mut Carry, piece: &[u8]) -> Step {
-    // SAFETY: carry and piece outlive the call, which writes within the first and only reads the second; being `&mut`, the
-    // first overlaps nothing. The pointer of an empty slice is not null. The state goes by value, and every state gets an
-    // answer.
-    unsafe {
-        mdb_reader_step(
-            state,
-            carry.as_mut_ptr(),
-            carry.len(),
-            piece.as_ptr(),
-            piece.len(),
-        )
-    }
+pub fn reader_step(reader: &mut Reader, piece: &[u8]) -> Step {
+    // SAFETY: reader and piece outlive the call, which writes within the first and only reads the second; being `&mut`, the
+    // first overlaps nothing. The pointer of an empty slice is not null. The struct holds numbers alone, of which all are good.
+    unsafe { mdb_reader_step(reader, piece.as_ptr(), piece.len()) }
 }
 
 #[inline]
 pub fn reader_read<'a>(
-    state: Reader,
-    carry: &mut Carry,
+    reader: &mut Reader,
     piece: &[u8],
     table: &'a mut [MaybeUninit<Row>],
 ) -> (Read, &'a [Row]) {
-    // SAFETY: carry, piece and table outlive the call, which writes within the carry, reads the piece, and writes whole numbers
-    // within the table, of which it reads none; being `&mut`, carry and table overlap nothing. The pointer of an empty slice
-    // is not null.
+    // SAFETY: reader, piece and table outlive the call, which writes within the reader, reads the piece, and writes whole numbers
+    // within the table, of which it reads none; being `&mut`, reader and table overlap nothing. The pointer of an empty slice
+    // is not null. The struct holds numbers alone, of which all are good.
     let read = unsafe {
         mdb_reader_read(
-            state,
-            carry.as_mut_ptr(),
-            carry.len(),
+            reader,
             piece.as_ptr(),
             piece.len(),
             table.as_mut_ptr().cast(),
@@ -329,9 +306,9 @@ pub const fn no_row() -> MaybeUninit<Row> {
     MaybeUninit::uninit()
 }
 
-pub fn reader_verdict(state: Reader) -> Verdict {
-    // SAFETY: no memory is lent; the state goes by value, and every state gets an answer.
-    unsafe { mdb_reader_verdict(state) }
+pub fn reader_verdict(reader: &Reader) -> Verdict {
+    // SAFETY: the reader outlives the call, which only reads it.
+    unsafe { mdb_reader_verdict(reader) }
 }
 
 pub fn writer_new(tag: &[u8]) -> Writer {
@@ -340,15 +317,20 @@ pub fn writer_new(tag: &[u8]) -> Writer {
 }
 
 #[inline]
-pub fn writer_put(state: Writer, offer: Offer, buffer: &mut [u8]) -> Written {
-    // SAFETY: the slice outlives the call, which writes within it and nowhere else; the pointer of an empty slice is not
-    // null. State and offer go by value, and all of them get an answer.
-    unsafe { mdb_writer_put(state, offer, buffer.as_mut_ptr(), buffer.len()) }
+pub fn writer_put(writer: &mut Writer, offer: Offer, buffer: &mut [u8]) -> Written {
+    // SAFETY: writer and buffer outlive the call, which writes within them and nowhere else; being `&mut`, they do not overlap.
+    // The pointer of an empty slice is not null. The struct holds numbers alone, of which all are good.
+    unsafe { mdb_writer_put(writer, offer, buffer.as_mut_ptr(), buffer.len()) }
 }
 
-pub fn writer_verdict(state: Writer) -> Verdict {
-    // SAFETY: no memory is lent; the state goes by value, and every state gets an answer.
-    unsafe { mdb_writer_verdict(state) }
+pub fn writer_verdict(writer: &Writer) -> Verdict {
+    // SAFETY: the writer outlives the call, which only reads it.
+    unsafe { mdb_writer_verdict(writer) }
+}
+
+pub fn offer_of(record: Record) -> Offer {
+    // SAFETY: no memory is lent; the record goes by value, and every record gets an answer.
+    unsafe { mdb_offer_of(record) }
 }
 
 pub fn judge(tag: &[u8], shard: &[u8]) -> Verdict {
@@ -445,14 +427,14 @@ const _: () = {
     assert!(size_of::<Totals>() == 40);
     assert!(size_of::<Due>() == 24);
     assert!(size_of::<Place>() == 96);
-    assert!(size_of::<Reader>() == 128);
+    assert!(size_of::<Reader>() == 328);
     assert!(size_of::<Writer>() == 128);
     assert!(size_of::<Record>() == 72);
     assert!(size_of::<Verdict>() == 64);
-    assert!(size_of::<Step>() == 224);
-    assert!(size_of::<Read>() == 160);
+    assert!(size_of::<Step>() == 96);
+    assert!(size_of::<Read>() == 32);
     assert!(size_of::<Offer>() == 72);
-    assert!(size_of::<Written>() == 152);
+    assert!(size_of::<Written>() == 24);
     assert!(size_of::<Hash>() == 32);
     assert!(size_of::<FoundChunk>() == 24);
     assert!(size_of::<FoundFile>() == 24);

@@ -43,6 +43,8 @@ mod join;
 mod plan;
 mod reader;
 mod record;
+#[cfg(test)]
+mod states;
 mod writer;
 
 pub use audit::{audit, Audited};

@@ -7,7 +7,6 @@ use crate::{ffi, Record, Refusal, Verdict};
 #[derive(Clone, Debug)]
 pub struct Reader {
     state: ffi::Reader,
-    carry: ffi::Carry,
 }
 
 /// What one call of [`Reader::step`] gives.
@@ -30,24 +29,21 @@ pub enum Said {
     Refused(Refusal),
 }
 
-/// One row more than a piece of 4,096 bytes fills, even after a carry of 47: so one call takes the whole piece.
-const ROWS: usize = 87;
+/// A table of so many rows is never full with a piece of 4,096 bytes: so one call takes the whole piece.
+const ROWS: usize = (4096 + 200) / 48 + 1;
 
 impl Reader {
     /// A fresh reader. With a tag that is not 32 bytes it has refused with 2.
     pub fn new(tag: &[u8]) -> Self {
-        Reader {
-            state: ffi::reader_new(tag),
-            carry: [0; 200],
-        }
+        let state = ffi::reader_new(tag);
+        Reader { state }
     }
 
     /// One call: takes the smaller of the piece's length and the bytes missing from the record due, and hands out at most
     /// one record. After a refusal every call takes nothing and repeats it.
     #[inline]
     pub fn step(&mut self, piece: &[u8]) -> Step {
-        let answer = ffi::reader_step(self.state, &mut self.carry, piece);
-        self.state = answer.reader;
+        let answer = ffi::reader_step(&mut self.state, piece);
         Step {
             taken: answer.taken as usize,
             said: match answer.said {
@@ -67,8 +63,7 @@ impl Reader {
         let mut table = [const { ffi::no_row() }; ROWS];
         let mut left = piece;
         loop {
-            let (answer, rows) = ffi::reader_read(self.state, &mut self.carry, left, &mut table);
-            self.state = answer.reader;
+            let (answer, rows) = ffi::reader_read(&mut self.state, left, &mut table);
             left = &left[answer.taken as usize..];
             for row in rows {
                 visit(row.into());
@@ -88,6 +83,6 @@ impl Reader {
     ///
     /// As said.
     pub fn verdict(&self) -> Verdict {
-        verdict(ffi::reader_verdict(self.state))
+        verdict(ffi::reader_verdict(&self.state))
     }
 }

@@ -249,19 +249,85 @@ impl From<ffi::Record> for Record {
     }
 }
 
+/// Two wide numbers as four.
+const fn halves(x: u64, y: u64) -> [u32; 4] {
+    [x as u32, (x >> 32) as u32, y as u32, (y >> 32) as u32]
+}
+
+impl From<&Record> for ffi::Record {
+    fn from(from: &Record) -> Self {
+        let (kind, hash, [a, b, c, d], offset) = match *from {
+            Record::Header {
+                tag,
+                version,
+                footer_size,
+                ..
+            } => (0, tag, halves(version, footer_size), 0),
+            Record::FileHead {
+                hash,
+                flags,
+                entries,
+                ..
+            } => (1, hash, [flags, entries, 0, 0], 0),
+            Record::Segment {
+                hash,
+                flags,
+                bytes,
+                start,
+                end,
+                ..
+            } => (2, hash, [flags, bytes, start.0, end.0], 0),
+            Record::Verification { hash, .. } => (3, hash, [0; 4], 0),
+            Record::Metadata { hash, .. } => (4, hash, [0; 4], 0),
+            Record::XorbHead {
+                hash,
+                flags,
+                entries,
+                bytes,
+                on_disk,
+                ..
+            } => (5, hash, [flags, entries, bytes, on_disk], 0),
+            Record::Chunk {
+                hash, start, bytes, ..
+            } => (6, hash, [start, bytes, 0, 0], 0),
+            Record::Bookend { .. } => (7, Hash([u64::MAX; 4]), [0; 4], 0),
+            Record::Footer {
+                xorb_offset,
+                key,
+                created,
+                expiry,
+                ..
+            } => (8, key, halves(created, expiry), xorb_offset.0),
+        };
+        let (hash, at) = (hash.0, from.position().0);
+        ffi::Record {
+            hash,
+            at,
+            offset,
+            kind,
+            a,
+            b,
+            c,
+            d,
+        }
+    }
+}
+
 impl From<&ffi::Row> for Record {
     #[inline]
     fn from(row: &ffi::Row) -> Self {
         let &[kind, at, offset, h0, h1, h2, h3, ab, cd] = row;
+        let [a, b, c, d] = halves(ab, cd);
+        let (hash, kind) = ([h0, h1, h2, h3], kind as u32);
         Record::from(ffi::Record {
-            hash: [h0, h1, h2, h3],
+            hash,
             at,
             offset,
-            kind: kind as u32,
-            a: ab as u32,
-            b: (ab >> 32) as u32,
-            c: cd as u32,
-            d: (cd >> 32) as u32,
+            kind,
+            a,
+            b,
+            c,
+            d,
         })
     }
 }

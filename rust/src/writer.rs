@@ -84,65 +84,62 @@ pub enum Offer {
     },
 }
 
+impl Offer {
+    /// The offer that makes a writer write a record that was read. What a writer makes itself is not in it, so of a good record
+    /// nothing is lost.
+    pub fn of(record: &Record) -> Self {
+        ffi::offer_of(record.into()).into()
+    }
+}
+
 impl From<Record> for Offer {
-    /// The offer that makes a writer write this record.
+    /// As [`Offer::of`].
     fn from(record: Record) -> Self {
-        match record {
-            Record::Header { footer_size, .. } => Offer::Header { footer_size },
-            Record::FileHead {
+        Offer::of(&record)
+    }
+}
+
+impl From<ffi::Offer> for Offer {
+    fn from(from: ffi::Offer) -> Self {
+        let ffi::Offer {
+            x, y, a, b, c, d, ..
+        } = from;
+        let hash = Hash(from.hash);
+        match from.kind {
+            0 => Offer::Header { footer_size: x },
+            1 => Offer::FileHead {
                 hash,
-                flags,
-                entries,
-                ..
-            } => Offer::FileHead {
-                hash,
-                flags,
-                entries,
+                flags: a,
+                entries: b,
             },
-            Record::Segment {
+            2 => Offer::Segment {
                 hash,
-                flags,
-                bytes,
-                start,
-                end,
-                ..
-            } => Offer::Segment {
-                hash,
-                flags,
-                bytes,
-                start,
-                end,
+                flags: a,
+                bytes: b,
+                start: ChunkIndex(c),
+                end: ChunkIndex(d),
             },
-            Record::Verification { hash, .. } => Offer::Verification { hash },
-            Record::Metadata { hash, .. } => Offer::Metadata { hash },
-            Record::XorbHead {
+            3 => Offer::Verification { hash },
+            4 => Offer::Metadata { hash },
+            5 => Offer::XorbHead {
                 hash,
-                flags,
-                entries,
-                bytes,
-                on_disk,
-                ..
-            } => Offer::XorbHead {
+                flags: a,
+                entries: b,
+                bytes: c,
+                on_disk: d,
+            },
+            6 => Offer::Chunk {
                 hash,
-                flags,
-                entries,
-                bytes,
-                on_disk,
+                start: a,
+                bytes: b,
             },
-            Record::Chunk {
-                hash, start, bytes, ..
-            } => Offer::Chunk { hash, start, bytes },
-            Record::Bookend { .. } => Offer::SectionEnd,
-            Record::Footer {
-                key,
-                created,
-                expiry,
-                ..
-            } => Offer::Footer {
-                key,
-                created,
-                expiry,
+            7 => Offer::SectionEnd,
+            8 => Offer::Footer {
+                key: hash,
+                created: x,
+                expiry: y,
             },
+            kind => unreachable!("a record has one of the kinds 0 to 8, not {kind}"),
         }
     }
 }
@@ -222,8 +219,7 @@ impl Writer {
     /// The refusal; then no byte has changed, and the writer stands where it stood.
     #[inline]
     pub fn put(&mut self, offer: &Offer, buffer: &mut [u8]) -> Result<usize, Refusal> {
-        let answer = ffi::writer_put(self.state, offer.into(), buffer);
-        self.state = answer.writer;
+        let answer = ffi::writer_put(&mut self.state, offer.into(), buffer);
         match answer.number {
             0 => Ok(answer.wrote as usize),
             number => Err(refusal(number, answer.at)),
@@ -236,6 +232,6 @@ impl Writer {
     ///
     /// As said.
     pub fn verdict(&self) -> Verdict {
-        verdict(ffi::writer_verdict(self.state))
+        verdict(ffi::writer_verdict(&self.state))
     }
 }

@@ -212,7 +212,7 @@ fn a_writer_refuses() {
 
 #[test]
 fn a_refusal_is_an_error_with_a_sentence() {
-    let numbers = (1..=18).chain([22]).chain(24..=30);
+    let numbers = (1..=18).chain([22]).chain(24..=30).chain([255]);
     let sentences: Vec<&str> = numbers.map(|n| refused(n, 0).sentence()).collect();
     for (i, one) in sentences.iter().enumerate() {
         assert!(!sentences[..i].contains(one) && !one.contains("no known"));
