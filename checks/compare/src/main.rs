@@ -1,20 +1,24 @@
 //! `compare N SEED`: N generated inputs, given to the independent reader and to the proved library, shards joined by both,
-//! stretches of files planned by both, segments audited by both, and blob files read and written by both. Nothing may differ.
+//! stretches of files planned by both, segments audited by both, and blob files read and written by both. Nothing may differ. Readers
+//! and writers are begun and lent as in C too, and some are of other making.
 
 mod audit;
 mod blobs;
+mod interface;
 mod join;
+mod lent;
 mod plan;
 mod puts;
 mod read;
 mod same;
 mod sights;
+mod states;
 mod store;
 mod write;
 
 use checks::cases::{random_case, Case};
 use checks::generate::Rng;
-use sights::{Sights, AUDITS, BLOBS, JOINS, PLANS, PUTS};
+use sights::{Sights, AUDITS, BLOBS, JOINS, LENT, PLANS, PUTS, STATES};
 use std::env;
 use std::process::ExitCode;
 
@@ -66,7 +70,7 @@ fn next_case(rng: &mut Rng) -> Case {
     case
 }
 
-fn check(case: &Case, rng: &mut Rng, seen: &mut Seen) -> Checked {
+fn check(case: &Case, rng: &mut Rng, seen: &mut Seen, lent: &mut Sights) -> Checked {
     let (records, verdict) = read::independent(case);
     seen.read[verdict.map_or_else(|refusal| refusal.number.into(), |_| 0)] += 1;
     seen.records += records.len() as u64;
@@ -74,6 +78,7 @@ fn check(case: &Case, rng: &mut Rng, seen: &mut Seen) -> Checked {
     read::in_steps(case, rng)?;
     let offers = read::in_tables(case, rng, &records, verdict)?;
     read::whole(case, rng, &records, verdict)?;
+    lent::check(case, rng, lent)?;
     audit::any(case, verdict)?;
     let read = write::Read {
         case,
@@ -108,11 +113,11 @@ fn report(seen: &Seen) {
     }
 }
 
-fn inputs(count: u64, seed: u64, seen: &mut Seen) -> Checked {
+fn inputs(count: u64, seed: u64, seen: &mut Seen, lent: &mut Sights) -> Checked {
     let mut rng = Rng::new(seed);
     for number in 0..count {
         let case = next_case(&mut rng);
-        check(&case, &mut rng, seen).map_err(|difference| {
+        check(&case, &mut rng, seen, lent).map_err(|difference| {
             let family = case.family;
             let (tag, shard) = (hex(&case.tag), hex(&case.shard));
             format!("input {number} of seed {seed} ({family}): {difference}\n  tag:   {tag}\n  shard: {shard}")
@@ -124,22 +129,28 @@ fn inputs(count: u64, seed: u64, seen: &mut Seen) -> Checked {
 /// Compares and reports all; an error is a difference, or something that was seen too seldom.
 fn compare(count: u64, seed: u64) -> Checked {
     let mut seen = Seen::default();
+    let mut lent = Sights::new("lent", LENT);
+    let mut states = Sights::new("states", STATES);
     let mut joins = Sights::new("joins", JOINS);
     let mut plans = Sights::new("plans", PLANS);
     let mut audits = Sights::new("audits", AUDITS);
     let mut blobs = Sights::new("blobs", BLOBS);
     let mut puts = Sights::new("puts", PUTS);
-    inputs(count, seed, &mut seen)?;
+    inputs(count, seed, &mut seen, &mut lent)?;
+    states::compare(count, seed, &mut states)?;
     join::compare(count, seed, &mut joins)?;
     plan::compare(count, seed, &mut plans)?;
     audit::compare(count, seed, &mut audits)?;
     blobs::compare(count, seed, &mut blobs)?;
     puts::compare(count, seed, &mut puts)?;
     report(&seen);
-    for sights in [&joins, &plans, &audits, &blobs, &puts] {
+    for sights in [&lent, &states, &joins, &plans, &audits, &blobs, &puts] {
         sights.report();
         sights.enough(count)?;
     }
+    let made = ["readers of other making", "writers of other making"];
+    let [readers, writers] = made.map(|name| states.times(name));
+    println!("{readers} readers and {writers} writers of other making, 0 faults");
     let [pairs, triples, lists] = ["pairs", "triples", "lists"].map(|name| joins.times(name));
     println!("{pairs} pairs, {triples} triples and {lists} lists joined, 0 differences");
     println!("{} plans, 0 differences", plans.times("plans"));

@@ -1,9 +1,60 @@
-//! What was seen of joins, of plans, of audits and of blob files, and what has to be.
+//! What was seen of what is lent, of joins, of plans, of audits and of blob files, and what has to be.
 
 use crate::Checked;
 
 /// What may be seen, and how often it is due with 100,000 inputs or more.
 type Sight = (&'static str, u64);
+
+/// Every sight of readers and writers that are begun and lent by their address.
+pub const LENT: &[Sight] = &[
+    ("readers lent", 100_000),
+    ("calls of step", 1_000_000),
+    ("calls of read", 2_500_000),
+    ("records by steps", 80_000),
+    ("records by rows", 250_000),
+    ("begun in another piece", 200_000),
+    ("no row", 800_000),
+    ("no row, bytes carried", 700_000),
+    ("no row at the end", 25_000),
+    ("no row, refused", 100_000),
+    ("a full table", 25_000),
+    ("rows to spare", 1_500_000),
+    ("refused with rows", 120_000),
+    ("rows enough", 700_000),
+    ("bytes in the carry", 2_500_000),
+    ("of a footer", 150_000),
+    ("zeros behind them", 2_000_000),
+    ("zeros after a record", 100_000),
+    ("zeros after a refusal", 250_000),
+    ("15 for a record", 40_000),
+    ("records written again", 300_000),
+];
+
+/// Every sight of readers and writers of other making: of the state, of what a reader does with it, of what a writer does.
+pub const STATES: &[Sight] = &[
+    ("readers of other making", 50_000),
+    ("writers of other making", 50_000),
+    ("a struct of zeros", 800),
+    ("an unknown code", 20_000),
+    ("code 0", 4_000),
+    ("code 8", 3_000),
+    ("refused with 0", 2_500),
+    ("refused with a number", 4_000),
+    ("at the end", 1_400),
+    ("a record due", 12_000),
+    ("steps refused 255", 12_000),
+    ("pieces refused 255", 25_000),
+    ("255 without a row", 12_000),
+    ("offers refused 255", 12_000),
+    ("another refusal told", 2_000),
+    ("no row, none refused", 6_000),
+    ("more in the carry", 6_000),
+    ("records found", 700),
+    ("records refused", 4_000),
+    ("records written", 200),
+    ("offers refused", 6_000),
+    ("offers of any record", 50_000),
+];
 
 /// Every sight of joins. Down to the longest result they are of accepted pairs, then of refused ones.
 pub const JOINS: &[Sight] = &[
@@ -252,6 +303,11 @@ impl Sights {
         if holds {
             self.saw(name);
         }
+    }
+
+    pub fn saw_times(&mut self, times: u64, name: &str) {
+        let place = self.place(name);
+        self.times[place] += times;
     }
 
     pub fn times(&self, name: &str) -> u64 {
