@@ -2,7 +2,7 @@
 use Rattle.host.specs.Claims.{HostClaim}
 use Rattle.host.proofs.Back.{offer-back, accepted}
 use Rattle.host.proofs.Held.{held-is, on}
-use Rattle.host.proofs.Wrote.{wrote-is, again}
+use Rattle.host.proofs.Wrote.{wrote-is, stays, again}
 
 pub host : HostClaim
-host = record { held-is = held-is; on = on; wrote-is = wrote-is; offer = offer-back; again = again; accepted = accepted }
+host = record { held-is = held-is; on = on; wrote-is = wrote-is; stays = stays; offer = offer-back; again = again; accepted = accepted }

@@ -1,6 +1,7 @@
 -- What a host holds after offers is what the writer that it stands for holds after those of a known kind, because the way out and in again changes nothing and an offer of no known kind leaves
 -- the writer as it is; so both round trips are claims about what is held. Assumes nothing.
 use mathlib.Core.Path.{_≡_, refl, sym, ap, ap₂, _∙_, subst}
+use mathlib.Core.Logic.{_≢_}
 use mathlib.Core.Bool.{Bool, true, false}
 use mathlib.Core.List.{List, [], _∷_, _++_}
 use Prim.Native.Nat.{ℕ, zero, suc, _^_, _<_}
@@ -19,19 +20,19 @@ use Rattle.layout.specs.Reach.{Reached}
 use Rattle.layout.specs.Scan.{Found, foundIn, IsAccepted}
 use Rattle.layout.proofs.Reach.{reached-start, reached-refused}
 use Rattle.writer.specs.Offers.{wordsOf, InRange}
-use Rattle.writer.specs.Write.{wroteBy, nextBy, writtenOf, bufferOf, verdictOf}
+use Rattle.writer.specs.Write.{wroteBy, refusalBy, nextBy, writtenOf, bufferOf, verdictOf}
 use Rattle.writer.specs.Write as write
 use Rattle.writer.specs.Writings.{Call, bytesBy, once}
 use Rattle.writer.specs.Writings as writings
 use Rattle.writer.specs.declared.Writer.{Writer}
 use Rattle.writer.specs.declared.Answer.{Answer}
 use Rattle.writer.specs.declared.Answer.the-variants as answer
-use Rattle.writer.proofs.Calls.{by-tag, stands, fresh-good, fresh-bad}
+use Rattle.writer.proofs.Calls.{put-kept, by-tag, stands, fresh-good, fresh-bad}
 use Rattle.writer.proofs.ReadAfterWrite.{reads-back, read-after-write}
 use Rattle.writer.proofs.WriteAfterRead.{write-after-read}
 use Rattle.host.specs.Boundary.{writerOut, writtenOut, verdictOut, offerIn}
 use Rattle.host.specs.Calls.{unknown, writtenFor, bufferFor, Put, putBy, verdictFor}
-use Rattle.host.specs.Claims.{Offered, Written, written, known, InRanges, wrote, WroteClaim, OffersOf}
+use Rattle.host.specs.Claims.{Offered, Written, written, known, InRanges, wrote, WroteClaim, StaysClaim, OffersOf}
 use Rattle.host.specs.declared.WriterState.{WriterState}
 use Rattle.host.specs.declared.OfferState.{OfferState}
 use Rattle.host.proofs.Back.{place-back, writer-back, offer-back, kind-known}
@@ -85,12 +86,12 @@ putAs t w o =
     let x = pick t (writtenOf w (offerIn (o .offer)) (length (o .buffer))) (unknown w) in
     record { writer = state (x .writer); answer = writtenOut (x .answer); buffer = pick t (bufferOf w (offerIn (o .offer)) (o .buffer)) (o .buffer) }
 
-put-is : (w : Writer) → Good w → (o : Offered) → putBy (state w) (o .offer) (o .buffer) ≡ putAs (ltb (o .offer .kind) 9) w o
+put-is : (w : Writer) → Reached (w .place) → (o : Offered) → putBy (state w) (o .offer) (o .buffer) ≡ putAs (ltb (o .offer .kind) 9) w o
 unfolding putBy
-put-is w g o =
+put-is w r o =
     ap (λ (v : Writer).
     let x = writtenFor v (o .offer) (length (o .buffer)) in
-    record { writer = state (x .writer); answer = writtenOut (x .answer); buffer = bufferFor v (o .offer) (o .buffer) }) (writer-back w (g .reached))
+    record { writer = state (x .writer); answer = writtenOut (x .answer); buffer = bufferFor v (o .offer) (o .buffer) }) (writer-back w r)
 
 -- and then the others
 abbrev andThen : Put → List Offered → Written
@@ -112,7 +113,7 @@ unfolding written writings.written
 wrote-all [] w g i = refl
 wrote-all (o ∷ os) w g (i, is) =
     let c : Call = record { offer = offerIn (o .offer); buffer = o .buffer } in
-    ap (λ (p : Put). andThen p os) (put-is w g o)
+    ap (λ (p : Put). andThen p os) (put-is w (g .reached) o)
     ∙ then-all (ltb (o .offer .kind) 9) w o os (wrote-all os (once w c .writer) (good-once w g c i) is) (wrote-all os w g is)
 
 ranges : (os : List Offered) → InRanges os → writings.InRanges (known os)
@@ -147,6 +148,26 @@ module _ (tag : List ℕ) (b : Bytes tag) (os : List Offered) (i : InRanges os) 
             ∙ ap (λ (x : Found). verdictOut (x .verdict)) (sym e);
         writer = ap (λ (x : Written). x .writer) whole;
       }
+
+-- ## A refusal
+
+-- a refused offer leaves the writer and the buffer as they were
+stays-by : (t : Bool) (w : Writer) (o : Offered) → putAs t w o .answer .number ≢ 0 → (putAs t w o .writer ≡ state w) × (putAs t w o .buffer ≡ o .buffer)
+unfolding writtenOf
+stays-by true w o n = go (write.answerOf w (offerIn (o .offer)) (length (o .buffer))) refl n
+  where
+    go : (a : Answer) → write.answerOf w (offerIn (o .offer)) (length (o .buffer)) ≡ a → refusalBy a .number ≢ 0
+        → (state (nextBy (write.answerOf w (offerIn (o .offer)) (length (o .buffer))) w (wordsOf (w .tag) (offerIn (o .offer)))) ≡ state w) × (bufferOf w (offerIn (o .offer)) (o .buffer) ≡ o .buffer)
+    go (answer.Wrote size) e m = absurd (m refl)
+    go (answer.Refused f) e m = (ap (λ (a : Answer). state (nextBy a w (wordsOf (w .tag) (offerIn (o .offer))))) e, sym (put-kept w (offerIn (o .offer)) (o .buffer) f e))
+stays-by false w o n = (refl, refl)
+
+pub stays : (tag : List ℕ) → Bytes tag → (os : List Offered) → InRanges os → StaysClaim tag os
+stays tag b os i o n =
+    let w = all tag b os i .writer in
+    let e = ap (λ (x : WriterState). putBy x (o .offer) (o .buffer)) (wrote-is tag b os i .writer) ∙ put-is w (last-reached tag b os i) o in
+    let k = stays-by (ltb (o .offer .kind) 9) w o (subst (λ (x : Put). x .answer .number ≢ 0) e n) in
+    (ap (λ (x : Put). x .writer) e ∙ k .0 ∙ sym (wrote-is tag b os i .writer), ap (λ (x : Put). x .buffer) e ∙ k .1)
 
 -- ## A shard written again
 

@@ -148,6 +148,11 @@ pub record WroteClaim (tag : List ℕ) (os : List Offered) : Type 0 where
   pub verdict : verdictFor (wrote tag os .writer .stand) ≡ verdictOut (foundIn tag (wrote tag os .bytes) .verdict)
   pub writer : wrote tag os .writer ≡ record { stand = writerOut (writings.written (write.fresh tag) (known os) .writer) }
 
+-- REFUSED: a refusal changes no byte of the buffer, and the writer that a host keeps stays as it was.
+abbrev pub StaysClaim : List ℕ → List Offered → Type 0
+StaysClaim tag os = (o : Offered) → putBy (wrote tag os .writer) (o .offer) (o .buffer) .answer .number ≢ 0
+    → (putBy (wrote tag os .writer) (o .offer) (o .buffer) .writer ≡ wrote tag os .writer) × (putBy (wrote tag os .writer) (o .offer) (o .buffer) .buffer ≡ o .buffer)
+
 -- these records are offered in their order, each as it was read and with a buffer that is long enough
 abbrev pub OffersOf : List Record → List Offered → Type 0
 OffersOf [] [] = Unit {0}
@@ -161,6 +166,7 @@ pub record HostClaim : Type 0 where
   pub held-is : (tag : List ℕ) (calls : List Call) → Each GoodBytes calls → HeldClaim tag calls
   pub on : (tag : List ℕ) (calls : List Call) → Each GoodBytes calls → OnClaim (held tag calls .reader)
   pub wrote-is : (tag : List ℕ) → Bytes tag → (os : List Offered) → InRanges os → WroteClaim tag os
+  pub stays : (tag : List ℕ) → Bytes tag → (os : List Offered) → InRanges os → StaysClaim tag os
   -- an offer made of a record that was read is the record's own, and so the records of an accepted shard, offered in their order, give its bytes again
   pub offer : (r : Record) → offerIn (offerFor (recordOut r)) ≡ offerOf r
   pub again : (tag : List ℕ) → Bytes tag → (bytes : List ℕ) → Bytes bytes → IsAccepted (foundIn tag bytes .verdict)
