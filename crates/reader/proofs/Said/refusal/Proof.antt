@@ -3,14 +3,6 @@ use borrow.Author.Needs.{needs}
 use Rattle.reader.proofs.Said.refusal.Statement.{statement}
 use Rattle.reader.proofs.Said.refusal.Tie as tie
 
--- /work/main/target/rlib/words.rlib/interface/lang/src/lib.rt:22:43
-enum-told : tie.Need-enum-told
-enum-told c = search needs
-
--- /work/main/target/rlib/words.rlib/interface/lang/src/lib.rt:22:43
-enum-told-2 : tie.Need-enum-told-2
-enum-told-2 c = search needs
-
 returns : tie.Need-returns
 returns c = rw (c .enum-told .given .1)
 
@@ -19,4 +11,5 @@ returns-2 c = rw (c .enum-told2 .given .1)
 
 pub refusal-spec : {M : Type 1} → statement M
 refusal-spec =
-    tie.close (tie.spec enum-told enum-told-2 (λ c. search needs) returns returns-2 (λ c. search needs))
+    tie.close
+    (tie.spec (λ c. search needs) (λ c. search needs) (λ c. search needs) returns returns-2 (λ c. search needs))
