@@ -25,7 +25,7 @@ use Rattle.rules.specs.declared.Verdict.{Verdict}
 use Rattle.rules.specs.declared.Verdict.the-variants as verdict
 use Rattle.carry.proofs.Sizes.{size-least}
 use Rattle.layout.specs.Scan.{format}
-use Rattle.reader.specs.Stream.{tagIn, silent, settled, unlessRefused, saidAt, stoppedBy, lacking, wholeIn, stepOf}
+use Rattle.reader.specs.Stream.{tagIn, saidNumber, silent, settled, unlessRefused, saidAt, stoppedBy, lacking, wholeIn, stepOf}
 use Rattle.reader.specs.Rows.{rowIn, isRecord, answered, Reading, readsOn, readFor}
 use Rattle.reader.specs.Readings.{Begun, after, Seen, seenOf, handedOut, thenSeen, offers, called}
 use Rattle.reader.specs.Showings.{rowsIn, restsOf, takenOf, SaysWhy, ShowsClaim, UsedUp, RoomClaim, RepeatedClaim, RowsClaim}
@@ -37,12 +37,6 @@ use Rattle.reader.proofs.Calls.{either, by-case, held-due, no-more, ref
 use Rattle.reader.proofs.Reached.{stands}
 use Rattle.reader.proofs.Cut.{offers-run}
 use Rattle.reader.proofs.Theorem.{reader}
-
--- tells what is said apart
-abbrev code : Said → ℕ
-code said.Nothing = 0
-code said.Record = 1
-code (said.Refused f) = 2
 
 -- ## Calls that hand out nothing
 
@@ -78,15 +72,15 @@ module _ (r : Reader) (piece : List ℕ) where
   Used s = s .answer .said ≡ said.Nothing → drop (s .answer .taken) piece ≡ []
 
   used-after : (w : Words) (number taken : ℕ) → Used (settled (r .stand) w number taken)
-  used-after w zero taken e = let k : _≡_ {A = ℕ} 1 0 = ap code e in absurd (omega arith)
-  used-after w (suc n) taken e = let k : _≡_ {A = ℕ} 2 0 = ap code (rw (ne-eqb (suc n) 0 (λ e. omega arith)) at e) in absurd (omega arith)
+  used-after w zero taken e = let k : _≡_ {A = ℕ} 1 0 = ap saidNumber e in absurd (omega arith)
+  used-after w (suc n) taken e = let k : _≡_ {A = ℕ} 2 0 = ap saidNumber (rw (ne-eqb (suc n) 0 (λ e. omega arith)) at e) in absurd (omega arith)
 
   used-end : (t : Bool) → eqb (length piece) 0 ≡ t → (x y : Step) → x .answer .taken ≡ 0 → (f : Refusal) → y .answer .said ≡ said.Refused f → Used (pick t x y)
   used-end true i x y z f g e = let k : length piece ≤ 0 = omega (arith, eqb-true (length piece) 0 i) in rw z (drop-of-length-le piece {i = 0} k)
-  used-end false i x y z f g e = let k : _≡_ {A = ℕ} 2 0 = ap code (sym g ∙ e) in absurd (omega arith)
+  used-end false i x y z f g e = let k : _≡_ {A = ℕ} 2 0 = ap saidNumber (sym g ∙ e) in absurd (omega arith)
 
   used-stopped : (v : Verdict) → Used (stoppedBy v r (length piece))
-  used-stopped (verdict.Refused f) e = let k : _≡_ {A = ℕ} 2 0 = ap code e in absurd (omega arith)
+  used-stopped (verdict.Refused f) e = let k : _≡_ {A = ℕ} 2 0 = ap saidNumber e in absurd (omega arith)
   used-stopped (verdict.Accepted summary) e = used-end (eqb (length piece) 0) refl _ _ refl _ refl e
 
   used-up : Used (stepOf r piece)
