@@ -1,5 +1,7 @@
 // What crosses to C: states and answers as structs of numbers, and the ways out and in again. An inner crate: the functions that a host calls
 // are in host_read, host_step, host_write and host_whole. What each number means is said in specs/Boundary, and for C in include/melagbosun.h.
+#![tactic(auto)]
+
 use rules::Totals;
 
 mod places;

@@ -1,4 +1,6 @@
 // For a host that has blob files, or parts of them, in buffers: reading an entry, writing one, and counting all.
+#![tactic(auto)]
+
 ghost use Rattle.std.specs.Prelude.{◌≡◌, length};
 ghost use Rattle.blobs.specs.Blobs.{blob, entry_at, entry_numbers, put_of, put_numbers, buffer_of, scan_of, scanned_numbers};
 

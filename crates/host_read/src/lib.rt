@@ -1,5 +1,7 @@
 // For a host that reads a shard piece by piece, with one reader that it keeps and lends by its address: a fresh reader, a whole piece into a table of rows, and the
 // verdict.
+#![tactic(auto)]
+
 ghost use Rattle.std.specs.Prelude.{◌≡◌};
 ghost use Rattle.reader.specs.Stream.{fresh};
 ghost use Rattle.host.specs.Boundary.{reader_out};

@@ -1,4 +1,6 @@
 // For a host that reads a shard record by record, with one reader that it keeps and lends by its address: one call of the reader.
+#![tactic(auto)]
+
 ghost use Rattle.std.specs.Prelude.{◌≡◌};
 ghost use Rattle.host.specs.Calls.{step_by};
 

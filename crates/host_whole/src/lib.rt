@@ -1,4 +1,6 @@
 // For a host that has whole shards in buffers: judging one, finding a chunk or a file in it, joining two, planning what to fetch of a file, and auditing one.
+#![tactic(auto)]
+
 ghost use Rattle.std.specs.Prelude.{◌≡◌, length};
 ghost use Rattle.layout.specs.Scan.{found_in};
 ghost use Rattle.finder.specs.Find.{chunk_found, chunk_numbers, file_found, file_numbers};

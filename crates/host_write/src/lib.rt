@@ -1,5 +1,7 @@
 // For a host that writes a shard record by record, with one writer that it keeps and lends by its address: a fresh writer, one record into a buffer, the verdict, and
 // the offer that writes a record which was read.
+#![tactic(auto)]
+
 ghost use Rattle.std.specs.Prelude.{◌≡◌};
 ghost use Rattle.writer.specs.Write.{fresh};
 ghost use Rattle.host.specs.Boundary.{writer_out, offer_for};
