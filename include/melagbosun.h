@@ -249,9 +249,9 @@ mdb_planned mdb_plan(const uint8_t *tag, size_t tag_length, const uint8_t *shard
  * false; of several blocks with the xorb's hash the first is taken. The answer is how many segments are listed and how many are
  * unlisted, if none is false. Refused in this order: the shard's refusal, 22 at the first false segment. Whether mdb_judge accepts
  * the shard does not depend on it. A shard has no table of its xorbs, so the heads of the xorb blocks are gone through for each
- * segment: at worst, the time grows with the number of segments times the number of blocks. On an Arm machine, a full shard of
- * 1,000 xorbs and 100,000 listed segments took 0.4 s, and the worst, as many empty xorbs as unlisted segments up to the limit,
- * 2 minutes. */
+ * segment: at worst, the time grows with the number of segments times the number of blocks. On an Arm machine, compiled by an older
+ * kit, a full shard of 1,000 xorbs and 100,000 listed segments took 0.4 s, and the worst, as many empty xorbs as unlisted segments
+ * up to the limit, 2 minutes. */
 mdb_audited mdb_audit(const uint8_t *tag, size_t tag_length, const uint8_t *shard, size_t shard_length);
 
 /* The entry of a blob file at a position, any position. An entry is 110 bytes and its data: "MSHB", a version of 16 bits that is 1,

@@ -60,8 +60,8 @@ pub struct Audited {
 /// # Time
 ///
 /// A shard has no table of its xorbs, so the heads of the xorb blocks are gone through for each segment: at worst, the time grows
-/// with the number of segments times the number of blocks. On an Arm machine, a full shard of 1,000 xorbs and 100,000 listed
-/// segments took 0.4 s, and the worst, as many empty xorbs as unlisted segments up to the limit, 2 minutes.
+/// with the number of segments times the number of blocks. On an Arm machine, compiled by an older kit, a full shard of 1,000 xorbs
+/// and 100,000 listed segments took 0.4 s, and the worst, as many empty xorbs as unlisted segments up to the limit, 2 minutes.
 ///
 /// # Errors
 ///
