@@ -6,7 +6,7 @@ use words::Words;
 use words::hash::{is_ones, same_hash};
 
 // Its xorb is not listed, or it is, and what the segment says of its chunks is true or false.
-#[derive(Drop)]
+#[derive(Clone, Copy)]
 pub enum Compared {
     Unlisted,
     True,

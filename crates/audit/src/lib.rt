@@ -1,4 +1,6 @@
 // The segments of a whole shard against the xorbs that it lists: a verdict apart from the reader's. What it is is said in specs/Audit.
+#![tactic(auto)]
+
 ghost use Rattle.std.specs.Prelude.{◌≡◌};
 ghost use Rattle.audit.specs.Audit.{audited_numbers};
 
@@ -10,13 +12,13 @@ mod segments;
 pub use segments::audit;
 
 // How many segments name a xorb that the shard lists, and how many name another.
-#[derive(Drop)]
+#[derive(Clone, Copy)]
 pub struct Counts {
     pub listed: u64,
     pub unlisted: u64,
 }
 
-#[derive(Drop)]
+#[derive(Clone, Copy)]
 pub enum Audited {
     Counted(Counts),
     Refused(Refusal),
@@ -24,7 +26,7 @@ pub enum Audited {
 
 // The paper's numbers for what an audit gives: how many segments name a listed xorb and how many another, or zeros and the refusal.
 #[repr(C)]
-#[derive(Drop)]
+#[derive(Clone, Copy)]
 pub struct AuditedNumbers {
     pub listed: u64,
     pub unlisted: u64,

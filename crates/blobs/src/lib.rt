@@ -1,5 +1,7 @@
 // The old blob files: entries one behind the other, each of 110 bytes and its data. A reader of one entry in a lent buffer, a writer of
 // one, and a scan of a whole buffer. What is found, written and counted is said in specs/Blobs.
+#![tactic(auto)]
+
 use words::{Position, Refusal};
 
 mod digits;
@@ -13,7 +15,7 @@ pub use scanning::scan;
 pub use writing::put_entry;
 
 // What the 110 bytes of an entry say: so many bytes of data follow; or the number of the first check that they fail.
-#[derive(Drop)]
+#[derive(Clone, Copy)]
 pub enum Head {
     Data(u64),
     Fault(u32),
@@ -32,7 +34,7 @@ impl Head {
 }
 
 // Where the parts of an entry are in the buffer: the hash's 64 digits, the data and how many bytes they are; and the position behind them.
-#[derive(Drop)]
+#[derive(Clone, Copy)]
 pub struct Parts {
     pub digits: Position,
     pub data: Position,
@@ -40,27 +42,27 @@ pub struct Parts {
     pub next: Position,
 }
 
-#[derive(Drop)]
+#[derive(Clone, Copy)]
 pub enum Entry {
     Found(Parts),
     Refused(Refusal),
 }
 
 // So many bytes were written, or the refusal, and nothing was written.
-#[derive(Drop)]
+#[derive(Clone, Copy)]
 pub enum Put {
     Wrote(usize),
     Refused(Refusal),
 }
 
 // How many entries there are, and the sum of their data lengths.
-#[derive(Drop)]
+#[derive(Clone, Copy)]
 pub struct Tally {
     pub entries: u64,
     pub bytes: u64,
 }
 
-#[derive(Drop)]
+#[derive(Clone, Copy)]
 pub enum Scanned {
     Counted(Tally),
     Refused(Refusal),
@@ -69,7 +71,7 @@ pub enum Scanned {
 // The paper's numbers for what is found of an entry: where its digits and its data are and how many bytes these have, and the next position; or
 // zeros and the refusal.
 #[repr(C)]
-#[derive(Drop)]
+#[derive(Clone, Copy)]
 pub struct EntryNumbers {
     pub digits: u64,
     pub data: u64,
@@ -81,7 +83,7 @@ pub struct EntryNumbers {
 
 // Those for what writing an entry gives: so many bytes were written, or 0 and the refusal.
 #[repr(C)]
-#[derive(Drop)]
+#[derive(Clone, Copy)]
 pub struct PutNumbers {
     pub wrote: u64,
     pub at: u64,
@@ -90,7 +92,7 @@ pub struct PutNumbers {
 
 // Those for what a scan gives: how many entries there are and the sum of their data lengths, or zeros and the refusal.
 #[repr(C)]
-#[derive(Drop)]
+#[derive(Clone, Copy)]
 pub struct ScannedNumbers {
     pub entries: u64,
     pub bytes: u64,

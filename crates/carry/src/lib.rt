@@ -1,5 +1,7 @@
 // The bytes of the record due: how many are missing, and what the whole record says, from the carry and the piece behind it. Inner functions, which
 // ask what the reader and `whole` prove of each call.
+#![tactic(auto)]
+
 ghost use Rattle.std.specs.Prelude.{◌≡◌, ◌-◌, ◌≤◌, ◌<◌, length};
 ghost use Rattle.std.proofs.Math.Seq.{paste};
 ghost use Rattle.words.specs.Record.{words_at};
@@ -9,7 +11,7 @@ use rules::Place;
 use words::{Footer, Tag, Words};
 
 // What the bytes of a whole record say: its numbers, and the number of the refusal, 0 if it is good.
-#[derive(Drop)]
+#[derive(Clone, Copy)]
 pub struct Heard {
     pub words: Words,
     pub number: u32,

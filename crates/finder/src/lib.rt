@@ -1,4 +1,6 @@
 // Finding a chunk or a file by its hash in a whole shard, and the 48 bytes at a position. What is found is said in specs/Find.
+#![tactic(auto)]
+
 use rules::{BlockNumber, ChunkIndex, FileNumber};
 use words::{Position, Refusal};
 
@@ -11,14 +13,14 @@ pub use chunks::find_chunk;
 pub use files::find_file;
 pub use parts::record_at;
 
-#[derive(Drop)]
+#[derive(Clone, Copy)]
 pub enum FoundChunk {
     At(BlockNumber, ChunkIndex, Position),
     Absent,
     Refused(Refusal),
 }
 
-#[derive(Drop)]
+#[derive(Clone, Copy)]
 pub enum FoundFile {
     At(FileNumber, Position),
     Absent,
@@ -27,7 +29,7 @@ pub enum FoundFile {
 
 // The paper's numbers for what finding a chunk gives. `said` is 0 where it is absent, 1 where it is found, 2 for a refusal.
 #[repr(C)]
-#[derive(Drop)]
+#[derive(Clone, Copy)]
 pub struct FoundChunkNumbers {
     pub at: u64,
     pub said: u32,
@@ -38,7 +40,7 @@ pub struct FoundChunkNumbers {
 
 // Those for what finding a file gives, in the same way.
 #[repr(C)]
-#[derive(Drop)]
+#[derive(Clone, Copy)]
 pub struct FoundFileNumbers {
     pub at: u64,
     pub said: u32,

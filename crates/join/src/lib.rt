@@ -1,5 +1,7 @@
 // Joining two shards without footer into a lent buffer: the first one's files, then the second's, and the same for xorbs.
 // What is answered and written is said in specs/Join.
+#![tactic(auto)]
+
 ghost use Rattle.std.specs.Prelude.{◌≡◌};
 ghost use Rattle.join.specs.Join.{joined_numbers};
 
@@ -10,7 +12,7 @@ mod joining;
 pub use joining::join;
 
 // So many bytes were written, or the refusal, and nothing was written.
-#[derive(Drop)]
+#[derive(Clone, Copy)]
 pub enum Joined {
     Wrote(usize),
     Refused(Refusal),
@@ -18,7 +20,7 @@ pub enum Joined {
 
 // The paper's numbers for what joining gives: so many bytes were written, or 0 and the refusal.
 #[repr(C)]
-#[derive(Drop)]
+#[derive(Clone, Copy)]
 pub struct JoinedNumbers {
     pub wrote: u64,
     pub at: u64,

@@ -11,7 +11,7 @@ use rules::{FileNumber, Place};
 use words::Refusal;
 
 // How many rows are to be filled, where they begin, and what is answered once they are.
-#[derive(Drop)]
+#[derive(Clone, Copy)]
 pub struct Draft {
     pub count: usize,
     pub cursor: Cursor,

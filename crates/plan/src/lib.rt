@@ -1,4 +1,6 @@
 // A stretch of one file of a whole shard: the pieces to fetch, as rows of a lent table. What they are is said in specs/Plan.
+#![tactic(auto)]
+
 ghost use Rattle.std.specs.Prelude.{◌≡◌, length};
 ghost use Rattle.plan.specs.Plan.{plan_of, answer_to, table_to, planned_numbers};
 
@@ -13,7 +15,7 @@ mod rows;
 
 // One piece to fetch: chunks of a xorb, and which of their unpacked bytes are wanted.
 #[repr(C)]
-#[derive(Drop)]
+#[derive(Clone, Copy)]
 pub struct Row {
     pub xorb: [u64; 4],
     pub start: ChunkIndex,
@@ -23,7 +25,7 @@ pub struct Row {
 }
 
 // So many rows were filled, or the refusal, and none was.
-#[derive(Drop)]
+#[derive(Clone, Copy)]
 pub enum Planned {
     Rows(usize),
     Refused(Refusal),
@@ -31,7 +33,7 @@ pub enum Planned {
 
 // The paper's numbers for what planning gives: so many rows were filled, or 0 and the refusal.
 #[repr(C)]
-#[derive(Drop)]
+#[derive(Clone, Copy)]
 pub struct PlannedNumbers {
     pub rows: u64,
     pub at: u64,

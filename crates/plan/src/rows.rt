@@ -7,7 +7,7 @@ use rules::ChunkIndex;
 use words::Words;
 
 // What a segment and the range share, and the range counted from the byte behind the segment.
-#[derive(Drop)]
+#[derive(Clone, Copy)]
 pub struct Share {
     pub a: u64,
     pub b: u64,
@@ -16,7 +16,7 @@ pub struct Share {
 }
 
 // The next segment, how many are left, and the range counted from there.
-#[derive(Drop)]
+#[derive(Clone, Copy)]
 pub struct Cursor {
     pub at: usize,
     pub a: u64,
@@ -24,14 +24,14 @@ pub struct Cursor {
     pub left: u32,
 }
 
-#[derive(Drop)]
+#[derive(Clone, Copy)]
 pub struct NextRow {
     pub row: Row,
     pub cursor: Cursor,
 }
 
 // How many rows there are, and how many bytes of the range lie past the last segment.
-#[derive(Drop)]
+#[derive(Clone, Copy)]
 pub struct Measure {
     pub rows: usize,
     pub past: u64,

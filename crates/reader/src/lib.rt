@@ -1,5 +1,7 @@
 // The reader: a shard in pieces. A host keeps one reader and lends it by its address (crates host_read and host_step); a Rattle program passes it on and gets the
 // next one. And the judge of a whole shard in a buffer. What one call does is said in specs/Stream, and what a whole piece gives in specs/Rows.
+#![tactic(auto)]
+
 ghost use Rattle.std.specs.Prelude.{◌≡◌};
 ghost use Rattle.layout.specs.Scan.{found_in};
 ghost use Rattle.reader.specs.Stream.{said_number, refusal_said};
@@ -13,7 +15,7 @@ mod rows;
 mod steps;
 
 // Where a reader stands: how many bytes its carry has, the tag, and the place.
-#[derive(Drop)]
+#[derive(Clone, Copy)]
 pub struct Stand {
     pub have: usize,
     pub tag: Tag,
@@ -21,14 +23,14 @@ pub struct Stand {
 }
 
 // A reader between two calls: where it stands, and the bytes so far of the record due.
-#[derive(Drop)]
+#[derive(Clone, Copy)]
 pub struct Reader {
     pub stand: Stand,
     pub carry: [u8; 200],
 }
 
 // What a call says: nothing yet, a record, or the refusal.
-#[derive(Drop)]
+#[derive(Clone, Copy)]
 pub enum Said {
     Nothing,
     Record,
@@ -36,28 +38,28 @@ pub enum Said {
 }
 
 // What a call answers: how many bytes it took, and the record found, all zeros where there is none.
-#[derive(Drop)]
+#[derive(Clone, Copy)]
 pub struct Answer {
     pub taken: usize,
     pub found: Record,
     pub said: Said,
 }
 
-#[derive(Drop)]
+#[derive(Clone, Copy)]
 pub struct Step {
     pub reader: Reader,
     pub answer: Answer,
 }
 
 // What a call with a lent carry gives.
-#[derive(Drop)]
+#[derive(Clone, Copy)]
 pub struct Call {
     pub stand: Stand,
     pub answer: Answer,
 }
 
 // What reading a whole piece gives: where the reader stands, the bytes taken, the rows filled, and what was said last.
-#[derive(Drop)]
+#[derive(Clone, Copy)]
 pub struct Read {
     pub stand: Stand,
     pub taken: usize,

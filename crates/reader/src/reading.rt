@@ -15,7 +15,7 @@ use words::{Tag, Words};
 
 // What a look at the record due sees, behind the bytes taken: whether it is whole and good, and then its words and the bytes that it takes of the piece; else the
 // number of its refusal, 0 where it is not whole.
-#[derive(Drop)]
+#[derive(Clone, Copy)]
 struct Look {
     words: Words,
     lacks: usize,

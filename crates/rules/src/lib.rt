@@ -1,4 +1,6 @@
 // The format: its types, and in code the rules that specs/Rules writes down. Reader, writer, finder, join, plan and audit all go by these.
+#![tactic(auto)]
+
 use words::{Position, Refusal, Words};
 
 mod checks;
@@ -12,19 +14,19 @@ ghost use Rattle.rules.specs.Rules.{moved_to};
 pub use checks::{further_records, same_31};
 
 // Kinds of number that are not exchangeable.
-#[derive(Drop)]
+#[derive(Clone, Copy)]
 pub struct FileNumber(pub u32);
 
-#[derive(Drop)]
+#[derive(Clone, Copy)]
 pub struct BlockNumber(pub u32);
 
 // It crosses to a host as it is, in a table of planned rows.
 #[repr(C)]
-#[derive(Drop)]
+#[derive(Clone, Copy)]
 pub struct ChunkIndex(pub u32);
 
 // The rows of the paper's table.
-#[derive(Drop)]
+#[derive(Clone, Copy)]
 pub enum Kind {
     Header,
     FileHead,
@@ -38,7 +40,7 @@ pub enum Kind {
 }
 
 // What is due: with the records of this kind that are left, and for chunks the sum so far and the head's bytes in xorb.
-#[derive(Drop)]
+#[derive(Clone, Copy)]
 pub enum Due {
     Header,
     FileHead,
@@ -54,7 +56,7 @@ pub enum Due {
 
 // How many there were of each, and the sum of the segments' bytes. They cross to a host as they are.
 #[repr(C)]
-#[derive(Drop)]
+#[derive(Clone, Copy)]
 pub struct Totals {
     pub files: u64,
     pub segments: u64,
@@ -65,7 +67,7 @@ pub struct Totals {
 
 // A place in the format: where the record due starts, what the records before it said, and what is due.
 // `offset` is the xorb offset, 0 while it is not known; `flags` and `entries` are those of the last file head.
-#[derive(Drop)]
+#[derive(Clone, Copy)]
 pub struct Place {
     pub at: Position,
     pub offset: Position,
@@ -98,7 +100,7 @@ impl Place {
 }
 
 // A record as it is handed out. Of a footer, `words` holds key, created and expiry, and `offset` the xorb offset; elsewhere that is 0.
-#[derive(Drop)]
+#[derive(Clone, Copy)]
 pub struct Record {
     pub at: Position,
     pub offset: Position,
@@ -107,21 +109,21 @@ pub struct Record {
 }
 
 // What is said of an accepted shard.
-#[derive(Drop)]
+#[derive(Clone, Copy)]
 pub struct Summary {
     pub length: u64,
     pub totals: Totals,
     pub footer: bool,
 }
 
-#[derive(Drop)]
+#[derive(Clone, Copy)]
 pub enum Verdict {
     Accepted(Summary),
     Refused(Refusal),
 }
 
 // The paper's numbers for a verdict.
-#[derive(Drop)]
+#[derive(Clone, Copy)]
 pub struct Numbers {
     pub refusal: Refusal,
     pub summary: Summary,

@@ -1,5 +1,7 @@
 // Where reading begins, and where reading a whole shard in a lent buffer ends: record by record, straight from the buffer, with nothing carried. An inner
 // crate, which the judge, finder, join, plan and audit stand on. One turn is said in specs/Turns.
+#![tactic(auto)]
+
 ghost use Rattle.std.specs.Prelude.{◌≡◌, true, ◌≤◌, eqb, length};
 ghost use Rattle.words.specs.Checks.{pick};
 ghost use Rattle.rules.specs.Verdicts.{refused};
@@ -11,7 +13,7 @@ use rules::Place;
 use words::{Refusal, Tag, Words};
 
 // One turn over the buffer: the place after it, and whether reading is over there.
-#[derive(Drop)]
+#[derive(Clone, Copy)]
 struct Turn {
     place: Place,
     over: bool,

@@ -1,5 +1,7 @@
 // Positions, tags and refusals, which all of the library has; and numbers, hashes and whole records in lent bytes: read, written and compared, and parts of one slice put into
 // another. An inner crate: a function that takes a position asks that what it reads or writes lies within the slice. What is read and written is said in specs/Le (numbers) and specs/Record (hashes and records).
+#![tactic(auto)]
+
 pub mod foot;
 pub mod hash;
 pub mod number;
@@ -7,7 +9,7 @@ pub mod part;
 pub mod record;
 
 // Every record of 48 bytes: a hash, and the four numbers at 32, 36, 40 and 44.
-#[derive(Drop)]
+#[derive(Clone, Copy)]
 pub struct Words {
     pub hash: [u64; 4],
     pub a: u32,
@@ -17,7 +19,7 @@ pub struct Words {
 }
 
 // The numbers of a footer: its version, its three offsets, the 48 bytes at 72 (key, created, expiry), and whether all its reserved bytes are 0.
-#[derive(Drop)]
+#[derive(Clone, Copy)]
 pub struct Footer {
     pub version: u64,
     pub files: u64,
@@ -45,11 +47,11 @@ impl Footer {
 }
 
 // Where a byte is, counted from the start of what was read or is written.
-#[derive(Drop)]
+#[derive(Clone, Copy)]
 pub struct Position(pub u64);
 
 // The tag of a shard, as four numbers.
-#[derive(Drop)]
+#[derive(Clone, Copy)]
 pub struct Tag(pub [u64; 4]);
 
 impl Tag {
@@ -58,7 +60,7 @@ impl Tag {
 }
 
 // Why bytes, or what was asked, are refused, and where.
-#[derive(Drop)]
+#[derive(Clone, Copy)]
 pub struct Refusal {
     pub at: Position,
     pub number: u32,

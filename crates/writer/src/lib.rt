@@ -1,4 +1,6 @@
 // The writer: a shard record by record, each into a lent buffer. What is offered, and the record that is made of it, is said in specs/Offers, what a call does in specs/Write.
+#![tactic(auto)]
+
 use rules::{ChunkIndex, Place};
 use words::{Refusal, Tag};
 
@@ -6,7 +8,7 @@ mod offers;
 mod writing;
 
 // The numbers of a record as the paper's table names them, without those that a writer makes itself.
-#[derive(Drop)]
+#[derive(Clone, Copy)]
 pub enum Fields {
     Header {
         footer_size: u64,
@@ -41,27 +43,27 @@ pub enum Fields {
 }
 
 // What is offered: a hash (of a footer its key) and numbers. A header and the end of a section have no hash; what stands there is not looked at.
-#[derive(Drop)]
+#[derive(Clone, Copy)]
 pub struct Offer {
     pub hash: [u64; 4],
     pub fields: Fields,
 }
 
 // A writer stands at a place of the format, and knows the tag.
-#[derive(Drop)]
+#[derive(Clone, Copy)]
 pub struct Writer {
     pub tag: Tag,
     pub place: Place,
 }
 
 // So many bytes were written, or the refusal.
-#[derive(Drop)]
+#[derive(Clone, Copy)]
 pub enum Answer {
     Wrote(usize),
     Refused(Refusal),
 }
 
-#[derive(Drop)]
+#[derive(Clone, Copy)]
 pub struct Written {
     pub writer: Writer,
     pub answer: Answer,
