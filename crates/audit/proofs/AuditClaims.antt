@@ -150,7 +150,7 @@ there_from bytes at (f ∷ fs) end (w, l, t) =
     let e : at + 48 + 48 * length (entry_rows f) ≡ at + 48 * length (file_rows f) = omega arith in
     there_behind bytes (at + 48) f.segments (other_rows f ++ blocks_then file_block fs end) _
     (subst (Stand bytes (at + 48)) (segments_first f (blocks_then file_block fs end)) t)
-    (there_from bytes _ fs end (subst (λ (p : ℕ). Stand bytes p (blocks_then file_block fs end)) e (stand_behind bytes (at + 48) (entry_rows f) (blocks_then file_block fs end) t)))
+    (there_from bytes (at + 48 * length (file_rows f)) fs end (subst (λ (p : ℕ). Stand bytes p (blocks_then file_block fs end)) e (stand_behind bytes (at + 48) (entry_rows f) (blocks_then file_block fs end) t)))
 
 there_of : (tag bytes : List ℕ) (s : Shard) → Bytes tag → Spells tag s bytes → There bytes (placed_of s)
 unfolding rows_of

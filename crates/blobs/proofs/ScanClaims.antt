@@ -9,7 +9,6 @@ use Rattle.blobs.specs.declared.Entry.TheVariants as entry
 use Rattle.blobs.specs.declared.Scanned.TheVariants as scanned
 use Rattle.blobs.specs.Blobs.{Blob, bytes_in, spell_all, entry_at, scan_of}
 use Rattle.blobs.specs.Claims.{Spells, IsCounted, Fate, ScanClaim}
-use Rattle.blobs.proofs.Stands.{sound, spelled}
 use Rattle.blobs.proofs.Files.{counted_by, stopped_by, fate_of, only_these}
 
 counted_list : (s : List ℕ) → Fate s → IsCounted (scan_of s) → (bs : List Blob) × Spells bs s

@@ -17,7 +17,7 @@ use Rattle.blobs.specs.Blobs.{Blob, Sound, AllSound, spell_entry, entry_size, sp
 use Rattle.blobs.specs.Claims.{Spells, Reads, Allowed, put_all, WriteClaim}
 use Rattle.blobs.proofs.Entries.{Seen, seen}
 use Rattle.blobs.proofs.Written.{length_entry, allowed, may_write, written, not_written, wrote_free}
-use Rattle.blobs.proofs.Stands.{blob_of, sound, spelled}
+use Rattle.blobs.proofs.Stands.{blob_of}
 use Rattle.blobs.proofs.Files.{length_all}
 use Rattle.blobs.proofs.ReadClaims.{reads_there, found_blob, found_sound, found_length, found_spelled}
 

@@ -98,7 +98,7 @@ module _ (hash : Hash) where
     past number at (x ∷ xs) ys (s, ss) (n, ns) =
         let e : number + 1 + length xs ≡ number + length (x ∷ xs) = omega arith in
         let f : at + 48 + 48 * length x.chunks + 48 * rows_in xs ≡ at + 48 * rows_in (x ∷ xs) = omega (arith, rows_are x) in
-        passes _ _ hash _ _ SoundChunk (λ c k. k.hash) is 0 (at + 48) x.chunks s.chunks n
+        passes _ (λ x. 1) hash _ _ SoundChunk (λ c k. k.hash) is 0 (at + 48) x.chunks s.chunks n
         ∙ past (number + 1) (at + 48 + 48 * length x.chunks) xs ys ss ns
         ∙ ap (λ (m : ℕ). among_blocks hash m (at + 48 + 48 * length x.chunks + 48 * rows_in xs) ys) e
         ∙ ap (λ (p : ℕ). among_blocks hash (number + length (x ∷ xs)) p ys) f

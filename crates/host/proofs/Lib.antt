@@ -1,5 +1,3 @@
-pub mod Lent
-pub mod Looked
 pub mod Back
 pub mod Held
 pub mod Wrote

@@ -27,7 +27,7 @@ use Rattle.writer.specs.Writings as writings
 use Rattle.writer.specs.declared.Writer.{Writer}
 use Rattle.writer.specs.declared.Answer.{Answer}
 use Rattle.writer.specs.declared.Answer.TheVariants as answer
-use Rattle.writer.proofs.Calls.{put_kept, by_tag, stands, fresh_good, fresh_bad}
+use Rattle.writer.proofs.Calls.{put_kept, by_tag, fresh_good, fresh_bad}
 use Rattle.writer.proofs.ReadAfterWrite.{reads_back, read_after_write}
 use Rattle.writer.proofs.WriteAfterRead.{write_after_read}
 use Rattle.host.specs.Boundary.{writer_out, written_out, verdict_out, offer_in}

@@ -1,7 +1,7 @@
 -- What kinds the rows of blocks have: what holds of each kind that a block may have holds of all its rows, because each row's kind is written in the
 -- layout. Assumes nothing.
 use mathlib.Core.List.{List, [], ◌∷◌, ◌++◌, map}
-use Prim.Native.Nat.{ℕ}
+use Prim.Native.Nat.{ℕ, ◌+◌}
 use Rattle.rules.specs.declared.Kind.{Kind}
 use Rattle.rules.specs.declared.Kind.TheVariants as kind
 use Rattle.layout.specs.Layout.{FileBlock, XorbBlock, Chunk, Row, Each, joined, members, if_any, segment_row, verification_row, metadata_row, file_rows, chunk_rows, xorb_rows}
@@ -40,7 +40,7 @@ module _ (P : Kind → Type 0) where
 
   pub chunk_kinds : (start : ℕ) (cs : List Chunk) → P kind.Chunk → Kinds (chunk_rows start cs)
   chunk_kinds start [] c = tt
-  chunk_kinds start (k ∷ cs) c = (c, chunk_kinds _ cs c)
+  chunk_kinds start (k ∷ cs) c = (c, chunk_kinds (start + k.bytes) cs c)
 
   pub xorb_kinds : (xs : List XorbBlock) → P kind.XorbHead → P kind.Chunk → Kinds (joined xorb_rows xs)
   unfolding xorb_rows

@@ -9,7 +9,6 @@ use native.Mathlib.Omega.{arith}
 use lib.Dec.{eqb, lit<, eqb-suc-zero}
 use borrow.Author.Tests.{eqb-true, eq-eqb}
 use Rattle.words.specs.Checks.{pick}
-use Rattle.cut.specs.Format.{at}
 use Rattle.rules.specs.Rules.{bit31, bit30, no_other_bit, same31}
 use Rattle.layout.specs.Layout.{FileBlock, has, Each, flags_of, verified, Agree}
 

@@ -51,7 +51,7 @@ stepped tag p q r rs g = g
 pub goes_append : (tag : Tag) (p q r : Place) (xs ys : List Row) → Goes tag p xs q → Goes tag q ys r → Goes tag p (xs ++ ys) r
 unfolding Goes
 goes_append tag p q r [] ys e g = subst (λ x. Goes tag x ys r) (sym e) g
-goes_append tag p q r (x ∷ xs) ys (h, t) g = (h, goes_append tag _ q r xs ys t g)
+goes_append tag p q r (x ∷ xs) ys (h, t) g = (h, goes_append tag (next_of p x.words) q r xs ys t g)
 
 pub goes_from : (tag : Tag) (p m q : Place) (rs : List Row) → p ≡ m → Goes tag m rs q → Goes tag p rs q
 goes_from tag p m q rs e t = subst (λ x. Goes tag x rs q) (sym e) t

@@ -5,6 +5,5 @@ pub mod Seeking
 pub mod Outcomes
 pub mod Drafting
 pub mod Table
-pub mod Locals
 pub mod RowClaims
 pub mod PlanClaims

@@ -9,7 +9,7 @@ use Rattle.rules.specs.Kinds.{same_kind}
 use Rattle.rules.specs.declared.Record.{Record}
 use Rattle.rules.specs.declared.Kind.{Kind}
 use Rattle.rules.specs.declared.Kind.TheVariants as kind
-use Rattle.layout.specs.Layout.{Hash, Segment, FileBlock, Foot, Shard, Row, if_any, members, verification_row, metadata_row, placed, foot_record, rows_of, xorb_section, xorb_offset, footer_offset, records_of}
+use Rattle.layout.specs.Layout.{Hash, FileBlock, Foot, Shard, Row, if_any, members, verification_row, metadata_row, placed, foot_record, rows_of, xorb_section, xorb_offset, footer_offset, records_of}
 use Rattle.layout.specs.Blocks.{other_rows, entry_rows, file_block, blocks_then, segment_of, leading}
 use Rattle.layout.specs.Scan.{Found, found_in}
 use Rattle.layout.proofs.Last.{Spelling}

@@ -20,7 +20,6 @@ use Rattle.words.proofs.Stores.{puts_append}
 use Rattle.cut.proofs.Runs.{run_nil}
 use Rattle.rules.specs.Rules.{size_by, size_of, words_in, fault_in}
 use Rattle.rules.specs.Verdicts.{refusal_at, verdict_at}
-use Rattle.rules.specs.declared.Due.TheVariants.{Refused}
 use Rattle.rules.specs.declared.Verdict.{Verdict}
 use Rattle.rules.specs.declared.Verdict.TheVariants as verdict
 use Rattle.carry.proofs.Sizes.{size_least}

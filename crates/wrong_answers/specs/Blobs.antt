@@ -1,5 +1,5 @@
 -- Wrong answers of `blobs`: an entry of a blob file found, one written, and all of them counted.
-use Rattle.std.specs.Prelude.{refl, true, false, List, [], ◌∷◌, ◌++◌, ℕ, ◌+◌, take, drop, replicate, set}
+use Rattle.std.specs.Prelude.{refl, true, false, List, [], ◌∷◌, ◌++◌, ℕ, take, drop, replicate, set}
 use Rattle.words.specs.Le.{le_at, le_num, spell, puts, zeros_at}
 use Rattle.words.specs.Refusals.{refused_at}
 use Rattle.blobs.specs.Blobs.{blob, is_digit, are_digits, magic, spell_entry, head_of, whole_of, parts_at, entry_at, blob_in, put_fault, put_of, buffer_of, bytes_in, scan_from, scan_of}

@@ -1,0 +1,5 @@
+-- `stand_in` meets its contract: each number has its field. Assumes nothing.
+use Rattle.host.proofs.readers.stand_in.Goals as goal
+
+pub returns : goal.returns
+returns c = rw c.place_in.ensures

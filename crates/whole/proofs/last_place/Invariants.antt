@@ -1,0 +1,12 @@
+-- `last_place` meets its contract: reading from the loop's place ends where reading the whole ends. The measure is what is left of the buffer. Assumes nothing.
+use Prim.Native.Nat.{◌-◌}
+use lib.ListN.{length}
+use Rattle.layout.specs.Reach.{last_place}
+use Rattle.whole.proofs.Turns.{Loop}
+use Rattle.whole.proofs.last_place.Given as goal
+
+abbrev pub invariant-loop-four : goal.invariant-loop-four
+invariant-loop-four l = Loop l.four l.shard (last_place l.tag l.shard) l.place
+
+abbrev pub decreases-loop-four : goal.decreases-loop-four
+decreases-loop-four l = length l.shard - l.place.at.0
