@@ -1,4 +1,8 @@
 // Counts the blob file on standard input, here one of four entries.
-fn main() {
-    blobline::run();
+#![tactic(auto)]
+
+use std::io;
+
+fn main(rt: HostRuntime) -> io::Result<()> {
+    blobline::run(&rt)
 }

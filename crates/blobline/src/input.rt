@@ -1,7 +1,8 @@
-// Parts of standard input: so many bytes kept, and so many read past.
+// Parts of the input: so many bytes kept, and so many read past.
 ghost use Rattle.std.specs.Prelude.{◌≤◌, length};
 
-use libc::STDIN_FILENO;
+use std::io::Read;
+use text::input::read_full;
 
 // So many bytes were kept at the start of a buffer. Where these don't fill it, the input ended, or a read failed.
 #[derive(Drop)]
@@ -10,20 +11,14 @@ pub struct Kept {
     pub failed: bool,
 }
 
-pub fn filled(buf: &mut [u8]) -> Kept
+pub fn filled<R: Read>(input: &mut R, buf: &mut [u8]) -> Kept
     ensures { result.size ≤ length buf.old }
 {
-    let size = io::read_full(STDIN_FILENO, buf);
+    let part = read_full(input, buf);
     Kept {
-        size,
-        failed: size < buf.len() && !ended(),
+        size: part.size,
+        failed: part.outcome.is_err(),
     }
-}
-
-// Where no bytes came, one more read tells the end from a read that failed.
-fn ended() -> bool {
-    let mut spare = [0u8; 1];
-    libc::read(STDIN_FILENO, &mut spare) == 0
 }
 
 // So many bytes were read past: as many as were asked for, or all up to the end, or up to a read that failed.
@@ -41,26 +36,26 @@ fn least(a: u64, b: usize) -> usize
 }
 
 // A bufferful, of so many bytes at most.
-fn read_some(most: u64, buf: &mut [u8]) -> usize
-    ensures { result ≤ most }
+fn read_some<R: Read>(input: &mut R, most: u64, buf: &mut [u8]) -> Kept
+    ensures { result.size ≤ most }
 {
     let n = least(most, buf.len());
-    io::read_full(STDIN_FILENO, &mut buf[0..n])
+    filled(input, &mut buf[0..n])
 }
 
-pub fn read_past(n: u64) -> Past {
-    let mut space = io::large_buffer();
+pub fn read_past<R: Read>(input: &mut R, n: u64) -> Past {
+    let mut space = [0u8; 65536];
     let buf: &mut [u8] = &mut space;
     let mut left = n;
     while 0 < left {
-        let got = read_some(left, buf);
-        if got == 0 {
+        let got = read_some(input, left, buf);
+        left -= got.size as u64;
+        if got.failed || got.size == 0 {
             return Past {
                 size: n - left,
-                failed: !ended(),
+                failed: got.failed,
             };
         }
-        left -= got as u64;
     }
     Past {
         size: n,

@@ -1,7 +1,11 @@
 // Counts the blob file on standard input, which may be longer than memory: the 110 bytes of each entry are judged, its data are read past.
 // The answer is three lines, or one with the refusal. A library, so that several programs run it, each on its own input.
+#![tactic(auto)]
+
 use blobs::{Head, Tally, head_of};
 use input::{filled, read_past};
+use std::io;
+use std::io::Read;
 use text::{line, refused, say};
 use words::{Position, Refusal};
 
@@ -45,12 +49,12 @@ impl Reading {
     // An entry more, of so many bytes of data. All of them were read, and no input has so many that these sums wrap.
     fn with_entry(self, length: u64) -> Reading {
         let tally = self.tally;
-        let data = std::num::wrapping_add_u64(self.at, Head::SIZE as u64);
+        let data = self.at.wrapping_add(Head::SIZE as u64);
         Reading {
-            at: std::num::wrapping_add_u64(data, length),
+            at: data.wrapping_add(length),
             tally: Tally {
-                entries: std::num::wrapping_add_u64(tally.entries, 1),
-                bytes: std::num::wrapping_add_u64(tally.bytes, length),
+                entries: tally.entries.wrapping_add(1),
+                bytes: tally.bytes.wrapping_add(length),
             },
             number: 0,
             more: true,
@@ -59,8 +63,8 @@ impl Reading {
     }
 
     // The data of an entry, read past; 29 where there are fewer.
-    fn past_data(self, length: u64) -> Reading {
-        let data = read_past(length);
+    fn past_data<R: Read>(self, input: &mut R, length: u64) -> Reading {
+        let data = read_past(input, length);
         if data.failed {
             self.stopped(0, true)
         } else if data.size < length {
@@ -71,9 +75,9 @@ impl Reading {
     }
 
     // The entry due. The end of the input is no fault where an entry would begin.
-    fn next(self) -> Reading {
+    fn next<R: Read>(self, input: &mut R) -> Reading {
         let mut bytes = [0u8; Head::SIZE];
-        let part = filled(&mut bytes);
+        let part = filled(input, &mut bytes);
         let n = part.size;
         if part.failed {
             return self.stopped(0, true);
@@ -83,39 +87,40 @@ impl Reading {
         }
         match head_of(&bytes[0..n]) {
             Head::Fault(number) => self.stopped(number, false),
-            Head::Data(length) => self.past_data(length),
+            Head::Data(length) => self.past_data(input, length),
         }
     }
 }
 
 // A proved loop has to end, and nothing says that the input does. So the loop counts its turns down, from a number that no run uses up.
-fn read_all() -> Reading {
+fn read_all<R: Read>(input: &mut R) -> Reading {
     let mut reading = Reading::START;
     let mut turns = u64::MAX;
     while turns > 0 && reading.more {
-        reading = reading.next();
+        reading = reading.next(input);
         turns -= 1;
     }
     reading
 }
 
 // Reads all of standard input and says what it is.
-pub fn run() {
-    let reading = read_all();
+pub fn run<R: Input + Print>(rt: &R) -> io::Result<()> {
+    let mut input = rt.reader();
+    let mut out = io::writer(rt);
+    let reading = read_all(&mut input);
     let tally = reading.tally;
     if reading.failed {
-        line(b"read failed in the entry at ", reading.at);
-        return;
+        return line(&mut out, b"read failed in the entry at ", reading.at);
     }
     if reading.number != 0 {
-        refused(Refusal {
+        let refusal = Refusal {
             at: Position(reading.at),
             number: reading.number,
-        });
-        say(b"\n");
-        return;
+        };
+        refused(&mut out, refusal)?;
+        return say(&mut out, b"\n");
     }
-    line(b"entries ", tally.entries);
-    line(b"bytes ", tally.bytes);
-    line(b"ok ", reading.at);
+    line(&mut out, b"entries ", tally.entries)?;
+    line(&mut out, b"bytes ", tally.bytes)?;
+    line(&mut out, b"ok ", reading.at)
 }

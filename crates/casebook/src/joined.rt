@@ -1,5 +1,7 @@
 // Two shards of a case, joined into a buffer that it brings with it.
 use join::{Joined, join};
+use std::io;
+use std::io::{Read, Write};
 use text::{refused, say};
 use trial::cases::{SHARD_MOST, TAG_MOST, broken_said, long_part, short_part};
 use trial::told::named;
@@ -24,37 +26,49 @@ pub fn sum_of(bytes: &[u8]) -> u64 {
 }
 
 // A line for the answer, and for every byte of the buffer after it.
-fn joined_told(tag: &[u8], first: &[u8], second: &[u8], buffer: &mut [u8]) {
+fn joined_told<W: Write>(
+    out: &mut W,
+    tag: &[u8],
+    first: &[u8],
+    second: &[u8],
+    buffer: &mut [u8],
+) -> io::Result<()> {
     match join(tag, first, second, buffer) {
-        Joined::Wrote(size) => named(b"joined ok ", size as u64),
+        Joined::Wrote(size) => named(out, b"joined ok ", size as u64)?,
         Joined::Refused(refusal) => {
-            say(b"joined ");
-            refused(refusal);
+            say(out, b"joined ")?;
+            refused(out, refusal)?;
         }
     }
-    named(b", the buffer's sum ", sum_of(buffer));
-    say(b"\n");
+    named(out, b", the buffer's sum ", sum_of(buffer))?;
+    say(out, b"\n")
 }
 
 // The part of a case that is joined: a tag, two shards and a buffer; and whether it was whole.
-pub fn next_joined() -> bool {
+pub fn next_joined<R: Read, W: Write>(input: &mut R, out: &mut W) -> io::Result<bool> {
     let mut tag = [0u8; TAG_MOST];
     let mut first = [0u8; SHARD_MOST];
     let mut second = [0u8; SHARD_MOST];
     let mut buffer = [0u8; BUFFER_MOST];
-    let of_tag = short_part(&mut tag);
-    let of_first = long_part(&mut first);
-    let of_second = long_part(&mut second);
-    let of_buffer = long_part(&mut buffer);
+    let of_tag = short_part(input, &mut tag);
+    let of_first = long_part(input, &mut first);
+    let of_second = long_part(input, &mut second);
+    let of_buffer = long_part(input, &mut buffer);
     let t = of_tag.size;
     let n = of_first.size;
     let m = of_second.size;
     let b = of_buffer.size;
     let whole = of_tag.whole & of_first.whole & of_second.whole & of_buffer.whole;
     if whole {
-        joined_told(&tag[0..t], &first[0..n], &second[0..m], &mut buffer[0..b]);
+        joined_told(
+            out,
+            &tag[0..t],
+            &first[0..n],
+            &second[0..m],
+            &mut buffer[0..b],
+        )?;
     } else {
-        broken_said();
+        broken_said(out)?;
     }
-    whole
+    Ok(whole)
 }

@@ -5,6 +5,8 @@ ghost use Rattle.plan.specs.Plan.{plan_of, answer_to, table_to};
 use crate::aloud::hash_told;
 use plan::{Planned, Row, plan};
 use rules::{ChunkIndex, FileNumber};
+use std::io;
+use std::io::{Read, Write};
 use text::{refused, say};
 use trial::cases::{SHARD_MOST, TAG_MOST, broken_said, long_part, short_part};
 use trial::told::named;
@@ -72,39 +74,45 @@ fn filled(
     Answered { rows, answer }
 }
 
-fn answer_told(answer: Planned) {
+fn answer_told<W: Write>(out: &mut W, answer: Planned) -> io::Result<()> {
     match answer {
-        Planned::Rows(count) => named(b"planned ok ", count as u64),
+        Planned::Rows(count) => named(out, b"planned ok ", count as u64)?,
         Planned::Refused(refusal) => {
-            say(b"planned ");
-            refused(refusal);
+            say(out, b"planned ")?;
+            refused(out, refusal)?;
         }
     }
-    say(b"\n");
+    say(out, b"\n")
 }
 
 // A line: xorb hash, chunk start and end, bytes to skip and to take.
-fn row_told(row: Row) {
+fn row_told<W: Write>(out: &mut W, row: Row) -> io::Result<()> {
     let xorb = row.xorb;
     let start = row.start;
     let end = row.end;
-    say(b"row");
-    hash_told(xorb);
-    named(b" ", start.0 as u64);
-    named(b" ", end.0 as u64);
-    named(b" ", row.skip as u64);
-    named(b" ", row.take as u64);
-    say(b"\n");
+    say(out, b"row")?;
+    hash_told(out, xorb)?;
+    named(out, b" ", start.0 as u64)?;
+    named(out, b" ", end.0 as u64)?;
+    named(out, b" ", row.skip as u64)?;
+    named(out, b" ", row.take as u64)?;
+    say(out, b"\n")
 }
 
-fn rows_told(rows: [Row; ROWS]) {
+fn rows_told<W: Write>(out: &mut W, rows: [Row; ROWS]) -> io::Result<()> {
     for i in 0..ROWS {
-        row_told(rows[i]);
+        row_told(out, rows[i])?;
     }
+    Ok(())
 }
 
 // A line for the answer, and one for every row of the table after it.
-fn planned_told(tag: &[u8], shard: &[u8], asked: &[u8; ASKED]) {
+fn planned_told<W: Write>(
+    out: &mut W,
+    tag: &[u8],
+    shard: &[u8],
+    asked: &[u8; ASKED],
+) -> io::Result<()> {
     let file = FileNumber(u32_at(asked, 0));
     let a = u64_at(asked, 4);
     let b = u64_at(asked, 12);
@@ -112,25 +120,25 @@ fn planned_told(tag: &[u8], shard: &[u8], asked: &[u8; ASKED]) {
     let answered = filled(tag, shard, file, a, b, blanks(), room);
     let rows = answered.rows;
     let answer = answered.answer;
-    answer_told(answer);
-    rows_told(rows);
+    answer_told(out, answer)?;
+    rows_told(out, rows)
 }
 
 // The part of a case that is planned: a tag, a shard and what is asked; and whether it was whole.
-pub fn next_planned() -> bool {
+pub fn next_planned<R: Read, W: Write>(input: &mut R, out: &mut W) -> io::Result<bool> {
     let mut tag = [0u8; TAG_MOST];
     let mut shard = [0u8; SHARD_MOST];
     let mut asked = [0u8; ASKED];
-    let of_tag = short_part(&mut tag);
-    let of_shard = long_part(&mut shard);
-    let of_asked = short_part(&mut asked);
+    let of_tag = short_part(input, &mut tag);
+    let of_shard = long_part(input, &mut shard);
+    let of_asked = short_part(input, &mut asked);
     let t = of_tag.size;
     let n = of_shard.size;
     let whole = of_tag.whole & of_shard.whole & of_asked.whole & (of_asked.size == ASKED);
     if whole {
-        planned_told(&tag[0..t], &shard[0..n], &asked);
+        planned_told(out, &tag[0..t], &shard[0..n], &asked)?;
     } else {
-        broken_said();
+        broken_said(out)?;
     }
-    whole
+    Ok(whole)
 }

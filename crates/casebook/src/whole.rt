@@ -1,5 +1,7 @@
 // What is made of a whole shard: a chunk and a file found in it, and the shard written again.
 use finder::{FoundChunk, FoundFile, find_chunk, find_file, record_at};
+use std::io;
+use std::io::Write;
 use text::{refused, say};
 use trial::again::Copying;
 use trial::told::{named, verdict_told};
@@ -16,9 +18,11 @@ fn begins(part: &[u8], hash: [u64; 4]) -> bool {
 }
 
 // What was found is looked at: its record begins with the hash that was asked for.
-fn part_told(shard: &[u8], at: Position, hash: [u64; 4]) {
-    if !begins(record_at(shard, at), hash) {
-        say(b" (its record DIFFERS)");
+fn part_told<W: Write>(out: &mut W, shard: &[u8], at: Position, hash: [u64; 4]) -> io::Result<()> {
+    if begins(record_at(shard, at), hash) {
+        Ok(())
+    } else {
+        say(out, b" (its record DIFFERS)")
     }
 }
 
@@ -32,67 +36,85 @@ fn too_late(length: usize) -> usize {
 }
 
 // There, at the end and far behind it, the part is empty.
-fn no_part_told(shard: &[u8]) {
+fn no_part_told<W: Write>(out: &mut W, shard: &[u8]) -> io::Result<()> {
     let first = record_at(shard, Position(too_late(shard.len()) as u64));
     let end = record_at(shard, Position(shard.len() as u64));
     let far = record_at(shard, Position(u64::MAX));
     if (first.len() != 0) | (end.len() != 0) | (far.len() != 0) {
-        say(b" (a record past the end)");
+        say(out, b" (a record past the end)")
+    } else {
+        Ok(())
     }
 }
 
-fn chunk_told(shard: &[u8], hash: [u64; 4], found: FoundChunk) {
+fn chunk_told<W: Write>(
+    out: &mut W,
+    shard: &[u8],
+    hash: [u64; 4],
+    found: FoundChunk,
+) -> io::Result<()> {
     match found {
         FoundChunk::At(block, index, position) => {
-            named(b"chunk in ", block.0 as u64);
-            named(b" index ", index.0 as u64);
-            named(b" at ", position.0);
-            part_told(shard, position, hash);
+            named(out, b"chunk in ", block.0 as u64)?;
+            named(out, b" index ", index.0 as u64)?;
+            named(out, b" at ", position.0)?;
+            part_told(out, shard, position, hash)
         }
-        FoundChunk::Absent => say(b"chunk absent"),
+        FoundChunk::Absent => say(out, b"chunk absent"),
         FoundChunk::Refused(refusal) => {
-            say(b"chunk ");
-            refused(refusal);
+            say(out, b"chunk ")?;
+            refused(out, refusal)
         }
     }
 }
 
-fn file_told(shard: &[u8], hash: [u64; 4], found: FoundFile) {
+fn file_told<W: Write>(
+    out: &mut W,
+    shard: &[u8],
+    hash: [u64; 4],
+    found: FoundFile,
+) -> io::Result<()> {
     match found {
         FoundFile::At(number, position) => {
-            named(b"file ", number.0 as u64);
-            named(b" at ", position.0);
-            part_told(shard, position, hash);
+            named(out, b"file ", number.0 as u64)?;
+            named(out, b" at ", position.0)?;
+            part_told(out, shard, position, hash)
         }
-        FoundFile::Absent => say(b"file absent"),
+        FoundFile::Absent => say(out, b"file absent"),
         FoundFile::Refused(refusal) => {
-            say(b"file ");
-            refused(refusal);
+            say(out, b"file ")?;
+            refused(out, refusal)
         }
     }
 }
 
 // A line for the first chunk that has the one hash, and a line for the first file that has the other.
-pub fn found_told(tag: &[u8], shard: &[u8], chunk: [u64; 4], file: [u64; 4]) {
-    say(b"\n");
-    chunk_told(shard, chunk, find_chunk(tag, shard, chunk));
-    say(b"\n");
-    file_told(shard, file, find_file(tag, shard, file));
-    no_part_told(shard);
-    say(b"\n");
+pub fn found_told<W: Write>(
+    out: &mut W,
+    tag: &[u8],
+    shard: &[u8],
+    chunk: [u64; 4],
+    file: [u64; 4],
+) -> io::Result<()> {
+    say(out, b"\n")?;
+    chunk_told(out, shard, chunk, find_chunk(tag, shard, chunk))?;
+    say(out, b"\n")?;
+    file_told(out, shard, file, find_file(tag, shard, file))?;
+    no_part_told(out, shard)?;
+    say(out, b"\n")
 }
 
 // A line for the records that were handed out, written again: how many bytes are as they were read, and the writer's verdict.
-pub fn written_told(tag: &[u8], shard: &[u8]) {
+pub fn written_told<W: Write>(out: &mut W, tag: &[u8], shard: &[u8]) -> io::Result<()> {
     let begun = Copying::new(tag);
     let copying = begun.copied(shard);
     let writer = copying.writer;
-    named(b"written ", copying.length);
+    named(out, b"written ", copying.length)?;
     if copying.same {
-        say(b" bytes, the same, ");
+        say(out, b" bytes, the same, ")?;
     } else {
-        say(b" bytes, and then it DIFFERS, ");
+        say(out, b" bytes, and then it DIFFERS, ")?;
     }
-    verdict_told(writer.verdict());
-    say(b"\n");
+    verdict_told(out, writer.verdict())?;
+    say(out, b"\n")
 }

@@ -2,11 +2,13 @@
 // is written again by a second writer.
 use crate::shard::{Shard, TAG};
 use crate::told::{again_said, case, verdict_said};
+use std::io;
+use std::io::Write;
 use text::{number, say};
 use trial::again::Copying;
 use writer::{Answer, Fields, Offer, Writer};
 
-#[derive(Drop)]
+#[derive(Clone, Copy)]
 struct Making {
     writer: Writer,
     copying: Copying,
@@ -84,36 +86,36 @@ fn made(footer_size: u64, chunks: u32) -> Making {
     }
 }
 
-fn name_said(footer_size: u64, chunks: u32) {
-    number(chunks as u64);
+fn name_said<W: Write>(out: &mut W, footer_size: u64, chunks: u32) -> io::Result<()> {
+    number(out, chunks as u64)?;
     if footer_size == 0 {
-        say(b" chunks: ");
+        say(out, b" chunks: ")
     } else {
-        say(b" chunks and a footer: ");
+        say(out, b" chunks and a footer: ")
     }
 }
 
 // A large shard that is accepted.
-fn fits(footer_size: u64, chunks: u32) {
+fn fits<W: Write>(out: &mut W, footer_size: u64, chunks: u32) -> io::Result<()> {
     let m = made(footer_size, chunks);
     let copying = m.copying;
-    name_said(footer_size, chunks);
-    verdict_said(copying.verdict());
-    again_said(copying.is_same());
-    say(b"\n");
+    name_said(out, footer_size, chunks)?;
+    verdict_said(out, copying.verdict())?;
+    again_said(out, copying.is_same())?;
+    say(out, b"\n")
 }
 
 // The head of one that is refused, which no writer makes.
-fn too_many(name: &[u8], footer_size: u64, chunks: u32) {
+fn too_many<W: Write>(out: &mut W, name: &[u8], footer_size: u64, chunks: u32) -> io::Result<()> {
     let s = Shard::begun(footer_size);
-    case(name, s.end().xorb(0, chunks, chunks));
+    case(out, name, s.end().xorb(0, chunks, chunks))
 }
 
-pub fn run() {
-    fits(0, 349521);
-    too_many(b"349522 chunks", 0, 349522);
-    fits(200, 349517);
-    too_many(b"349518 chunks and a footer", 200, 349518);
-    fits(0, 32767);
-    fits(0, 32768);
+pub fn run<W: Write>(out: &mut W) -> io::Result<()> {
+    fits(out, 0, 349521)?;
+    too_many(out, b"349522 chunks", 0, 349522)?;
+    fits(out, 200, 349517)?;
+    too_many(out, b"349518 chunks and a footer", 200, 349518)?;
+    fits(out, 0, 32767)?;
+    fits(out, 0, 32768)
 }

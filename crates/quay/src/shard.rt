@@ -23,14 +23,14 @@ pub const FALSE_TAG: [u64; 4] = [1, 2, 3, 4];
 
 pub const BIT_31: u32 = 0x80000000;
 
-#[derive(Drop)]
+#[derive(Clone, Copy)]
 pub struct Shard {
     pub bytes: [u8; 512],
     pub size: usize,
 }
 
 // A footer as it is put together, with what may be wrong about it.
-#[derive(Drop)]
+#[derive(Clone, Copy)]
 pub struct Foot {
     pub version: u64,
     pub files: u64,

@@ -1,4 +1,8 @@
 // Judges the shard on standard input, here one with every kind of record in it.
-fn main() {
-    shardline::run();
+#![tactic(auto)]
+
+use std::io;
+
+fn main(rt: HostRuntime) -> io::Result<()> {
+    shardline::run(&rt)
 }

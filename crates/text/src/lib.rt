@@ -1,26 +1,36 @@
-// Words, numbers and refusals on standard output.
-use libc::STDOUT_FILENO;
+// Words, numbers and refusals, written to what takes them; and bytes read until a buffer is full.
+#![tactic(auto)]
+
+ghost use Rattle.std.specs.Prelude.{OnOk};
+ghost use Rattle.std.specs.Io.KnownBytes.{Appends};
+
+use std::io;
+use std::io::Write;
 use words::Refusal;
 
-pub fn say(text: &[u8]) {
-    io::write_all(STDOUT_FILENO, text);
+pub mod input;
+
+pub fn say<W: Write>(out: &mut W, text: &[u8]) -> io::Result<()>
+    ensures { OnOk result (Appends (W.contents out.old) (W.contents out.new) text.now) }
+{
+    out.write_all(text)
 }
 
-pub fn number(n: u64) {
-    io::print_decimal(STDOUT_FILENO, n);
+pub fn number<W: Write>(out: &mut W, n: u64) -> io::Result<()> {
+    write!(out, "{n}")
 }
 
-pub fn line(name: &[u8], n: u64) {
-    say(name);
-    number(n);
-    say(b"\n");
+pub fn line<W: Write>(out: &mut W, name: &[u8], n: u64) -> io::Result<()> {
+    say(out, name)?;
+    number(out, n)?;
+    say(out, b"\n")
 }
 
 // A refusal with no line end, as `refused 3 at 0`.
-pub fn refused(r: Refusal) {
+pub fn refused<W: Write>(out: &mut W, r: Refusal) -> io::Result<()> {
     let at = r.at;
-    say(b"refused ");
-    number(r.number as u64);
-    say(b" at ");
-    number(at.0);
+    say(out, b"refused ")?;
+    number(out, r.number as u64)?;
+    say(out, b" at ")?;
+    number(out, at.0)
 }

@@ -2,11 +2,10 @@
 use crate::pieces::same_verdict;
 use reader::{Reader, Said};
 use rules::{Record, Verdict};
-use std::num::wrapping_add_u64;
 use writer::{Answer, Offer, Writer};
 
 // A reader and the writer behind it; `same` while what is written is what was read, which is so for the first `length` bytes.
-#[derive(Drop)]
+#[derive(Clone, Copy)]
 pub struct Copying {
     pub reader: Reader,
     pub writer: Writer,
@@ -14,7 +13,7 @@ pub struct Copying {
     pub length: u64,
 }
 
-#[derive(Drop)]
+#[derive(Clone, Copy)]
 struct Copied {
     copying: Copying,
     taken: usize,
@@ -71,7 +70,7 @@ impl Copying {
     // The length with so many bytes more, if none differed before them.
     fn with(self, more: usize) -> u64 {
         if self.same {
-            wrapping_add_u64(self.length, more as u64)
+            self.length.wrapping_add(more as u64)
         } else {
             self.length
         }

@@ -1,7 +1,9 @@
-// Cases on standard input, part by part: a part says its length first, in one byte or in four.
+// Cases on the input, part by part: a part says its length first, in one byte or in four. A read that fails ends the input.
 ghost use Rattle.std.specs.Prelude.{◌≤◌, length};
 
-use libc::STDIN_FILENO;
+use std::io;
+use std::io::{Read, Write};
+use text::input::read_full;
 use text::say;
 use words::number::u32_at;
 
@@ -29,15 +31,16 @@ fn broken(ended: bool) -> Part
 }
 
 // A part of so many bytes.
-fn read_part(buf: &mut [u8], n: usize) -> Part
+fn read_part<R: Read>(input: &mut R, buf: &mut [u8], n: usize) -> Part
     ensures { result.size ≤ length buf.old }
 {
     if buf.len() < n {
         return broken(false);
     }
+    let filled = read_full(input, &mut buf[0..n]);
     Part {
         size: n,
-        whole: io::read_full(STDIN_FILENO, &mut buf[0..n]) == n,
+        whole: filled.size == n,
         ended: false,
     }
 }
@@ -47,28 +50,30 @@ pub fn wide(x: u8) -> usize {
 }
 
 // A part whose length is one byte.
-pub fn short_part(buf: &mut [u8]) -> Part
+pub fn short_part<R: Read>(input: &mut R, buf: &mut [u8]) -> Part
     ensures { result.size ≤ length buf.old }
 {
     let mut size = [0u8; 1];
-    if io::read_full(STDIN_FILENO, &mut size) == 0 {
+    let filled = read_full(input, &mut size);
+    if filled.size == 0 {
         return broken(true);
     }
-    read_part(buf, wide(size[0]))
+    read_part(input, buf, wide(size[0]))
 }
 
 // A part whose length is four bytes.
-pub fn long_part(buf: &mut [u8]) -> Part
+pub fn long_part<R: Read>(input: &mut R, buf: &mut [u8]) -> Part
     ensures { result.size ≤ length buf.old }
 {
     let mut size = [0u8; 4];
-    if io::read_full(STDIN_FILENO, &mut size) < 4 {
+    let filled = read_full(input, &mut size);
+    if filled.size < 4 {
         return broken(true);
     }
-    read_part(buf, u32_at(&size, 0) as usize)
+    read_part(input, buf, u32_at(&size, 0) as usize)
 }
 
 // A case that is not whole is said, and nothing is read after it.
-pub fn broken_said() {
-    say(b"the input ends in a case, or a length is too large\n");
+pub fn broken_said<W: Write>(out: &mut W) -> io::Result<()> {
+    say(out, b"the input ends in a case, or a length is too large\n")
 }

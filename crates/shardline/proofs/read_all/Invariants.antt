@@ -1,0 +1,5 @@
+-- The turns left get less.
+use Rattle.shardline.proofs.read_all.Given as goal
+
+abbrev pub decreases-loop-turns : goal.decreases-loop-turns
+decreases-loop-turns g l = l.turns
