@@ -17,14 +17,14 @@ use std::io::{Read, Write};
 use text::say;
 use trial::cases::{SHARD_MOST, TAG_MOST, broken_said, long_part, short_part};
 use trial::told::verdict_told;
-use whole::{found_told, written_told};
+use whole_shard::{found_told, written_told};
 
 mod aloud;
 mod audited;
 mod blob_parts;
 mod joined;
 mod planned;
-mod whole;
+mod whole_shard;
 
 // One case: the records in pieces and the verdict on them, then what is made of the whole shard.
 fn told<W: Write>(out: &mut W, tag: &[u8], shard: &[u8], sizes: &[u8]) -> io::Result<()> {
