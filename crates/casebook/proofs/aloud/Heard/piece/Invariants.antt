@@ -2,8 +2,8 @@
 use Rattle.std.proofs.Common.{◌-◌, ◌≤◌, length}
 use Rattle.casebook.proofs.aloud.Heard.piece.Given as goal
 
-abbrev pub invariant-loop : goal.invariant-loop
-invariant-loop g l = l.at ≤ length l.bytes
+abbrev pub invariant-loop-call : goal.invariant-loop-call
+invariant-loop-call g l = l.at ≤ length l.bytes
 
-abbrev pub decreases-loop : goal.decreases-loop
-decreases-loop g l = length l.bytes - l.at
+abbrev pub decreases-loop-call : goal.decreases-loop-call
+decreases-loop-call g l = length l.bytes - l.at
