@@ -2,7 +2,7 @@
 ghost use Rattle.std.specs.Prelude.{◌≤◌, length};
 
 use std::io::Read;
-use text::input::read_full;
+use text::input::{Filled, read_full};
 
 // So many bytes were kept at the start of a buffer. Where these don't fill it, the input ended, or a read failed.
 #[derive(Drop)]
@@ -15,10 +15,16 @@ pub fn filled<R: Read>(input: &mut R, buf: &mut [u8]) -> Kept
     ensures { result.size ≤ length buf.old }
 {
     let part = read_full(input, buf);
+    let size = part.size;
     Kept {
-        size: part.size,
-        failed: part.outcome.is_err(),
+        size,
+        failed: size < buf.len() && !ended(part),
     }
+}
+
+// Where bytes are missing, whether the input ended, and no read failed.
+fn ended(part: Filled) -> bool {
+    part.outcome.is_ok()
 }
 
 // So many bytes were read past: as many as were asked for, or all up to the end, or up to a read that failed.
