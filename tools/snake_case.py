@@ -65,6 +65,10 @@ def imported(text, root):
     return names
 
 
+# Fields, whose names stand in their records alone: none of them gives way to a definition of another crate.
+FIELDS = ("at-end", "empty-file", "in-segment", "no-file")
+
+
 def is_comment(line):
     return line.lstrip().startswith(("--", "//"))
 
@@ -105,7 +109,7 @@ def names_of(before, root):
     others = {snake(name) for name in old if "-" not in name}
     for p, text in before.items():
         others.update(name for name in heads(text) if "-" not in name)
-    return {name: snake(name) + ("_lem" if "-" in name and snake(name) in others else "") for name in old}
+    return {name: snake(name) + ("_lem" if "-" in name and name not in FIELDS and snake(name) in others else "") for name in old}
 
 
 def gives_way(text, table):

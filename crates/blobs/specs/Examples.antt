@@ -32,7 +32,7 @@ pub record Examples : Type 0 where
   second : entry_at file 113 ≡ entry.Found (parts_at 113 0)
   kept : blob_in file (parts_at 113 0) ≡ two
   -- at the end, past it, and inside an entry
-  at_end_lem : entry_at file 223 ≡ refused 223 24
+  at_end : entry_at file 223 ≡ refused 223 24
   past : entry_at file 18446744073709551615 ≡ refused 18446744073709551615 24
   inside : entry_at file 1 ≡ refused 1 25
   -- one byte of the 110 damaged
@@ -63,7 +63,7 @@ examples = record {
   first = refl;
   second = refl;
   kept = refl;
-  at_end_lem = refl;
+  at_end = refl;
   past = refl;
   inside = refl;
   magic = refl;

@@ -21,10 +21,10 @@ use Rattle.plan.proofs.Steps.{share, row_by, others, by_step}
 common_from : (a b : ℕ) (e : Extent) → shares a b e ≡ true → (i : ℕ) × Common a b e i
 common_from a b e t =
     let h : max a e.before < min b (behind e) = ltb-true (from a e) (up_to b e) t in
-    (max a e.before, record { from = omega arith; below = omega arith; in_segment_lem = omega arith; not_behind = omega arith })
+    (max a e.before, record { from = omega arith; below = omega arith; in_segment = omega arith; not_behind = omega arith })
 
 common_to : (a b : ℕ) (e : Extent) (i : ℕ) → Common a b e i → shares a b e ≡ true
-common_to a b e i c = lt-ltb (from a e) (up_to b e) (omega (arith, c.from, c.below, c.in_segment_lem, c.not_behind))
+common_to a b e i c = lt-ltb (from a e) (up_to b e) (omega (arith, c.from, c.below, c.in_segment, c.not_behind))
 
 -- between two bytes of the file: those that a row takes
 taken_of : (n x y i : ℕ) → n ≤ x → x ≤ i → i < y → (n + (x - n) ≤ i) × (i < n + (x - n) + (y - x))
@@ -35,7 +35,7 @@ of_taken n x y i h l r = (omega arith, omega arith)
 
 row_to : (a b : ℕ) (e : Extent) (i : ℕ) → Common a b e i → Taken e (row_for a b e) i
 row_to a b e i c =
-    let t = taken_of e.before (from a e) (up_to b e) i (omega arith) (omega (arith, c.from, c.in_segment_lem)) (omega (arith, c.below, c.not_behind)) in
+    let t = taken_of e.before (from a e) (up_to b e) i (omega arith) (omega (arith, c.from, c.in_segment)) (omega (arith, c.below, c.not_behind)) in
     record { from = t.0; below = t.1 }
 
 row_from : (a b : ℕ) (e : Extent) (i : ℕ) → Taken e (row_for a b e) i → Common a b e i
@@ -43,7 +43,7 @@ row_from a b e i t =
     let c = of_taken e.before (from a e) (up_to b e) i (omega arith) t.from t.below in
     let l : max a e.before ≤ i = c.0 in
     let r : i < min b (behind e) = c.1 in
-    record { from = omega (arith, l); below = omega (arith, r); in_segment_lem = omega (arith, l); not_behind = omega (arith, r) }
+    record { from = omega (arith, l); below = omega (arith, r); in_segment = omega (arith, l); not_behind = omega (arith, r) }
 
 -- ## Their number
 

@@ -18,7 +18,7 @@ use Rattle.plan.specs.declared.Planned.TheVariants as planned
 pub record Common (a b : ℕ) (e : Extent) (i : ℕ) : Type 0 where
   pub from : a ≤ i
   pub below : i < b
-  pub in_segment_lem : e.before ≤ i
+  pub in_segment : e.before ≤ i
   pub not_behind : i < behind e
 
 -- the file's byte of that number is one of those that a row takes from a segment

@@ -35,11 +35,11 @@ pub record Examples : Type 0 where
   -- beyond 32 bits
   far : plan_for (some (segment 11 0 1 4294967295 ∷ segment 12 0 1 4294967295 ∷ [])) 4294967296 4294967298 1 ≡ fetch (row 12 0 1 1 2 ∷ [])
   -- refusals, and their order
-  no_file_lem : of 2 5 5 0 ≡ refused_with 17
+  no_file : of 2 5 5 0 ≡ refused_with 17
   no_bytes : of 0 5 5 0 ≡ refused_with 18
   backwards : of 0 6 5 9 ≡ refused_with 18
   past : of 0 149 151 0 ≡ refused_with 18
-  empty_file_lem : of 1 0 0 9 ≡ refused_with 18
+  empty_file : of 1 0 0 9 ≡ refused_with 18
   no_room : of 0 99 101 1 ≡ refused_with 15
 
 examples : Examples
@@ -51,10 +51,10 @@ examples = record {
   onwards = refl;
   inside = refl;
   far = refl;
-  no_file_lem = refl;
+  no_file = refl;
   no_bytes = refl;
   backwards = refl;
   past = refl;
-  empty_file_lem = refl;
+  empty_file = refl;
   no_room = refl;
 }
