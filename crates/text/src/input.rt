@@ -5,7 +5,7 @@ ghost use Rattle.std.specs.Io.KnownBytes.{Consumes};
 use std::io;
 use std::io::Read;
 
-// So many bytes were read to the start of a buffer. Where these don't fill it, the input ended, or a read failed, and then that is its error.
+// So many bytes were read to the start of a buffer. Where these don't fill it, the input ended, or a read failed, and then `outcome` is the error. A read that a signal interrupts has failed.
 #[derive(Drop)]
 pub struct Filled {
     pub size: usize,

@@ -1,4 +1,4 @@
-// Cases on the input, part by part: a part says its length first, in one byte or in four. A read that fails ends the input.
+// Cases on the input, part by part: a part says its length first, in one byte or in four. A read that fails is taken for the end of the input.
 ghost use Rattle.std.specs.Prelude.{◌≤◌, length};
 
 use std::io;

@@ -1,4 +1,4 @@
-// What the programs that try shards share: cases on standard input, a shard read in pieces, step by step and into rows, verdicts compared and told, and a shard written
+// What the programs that try shards share: cases on an input, a shard read in pieces, step by step and into rows, verdicts compared and told, and a shard written
 // again from what the reader hands out.
 #![tactic(auto)]
 
