@@ -17,7 +17,7 @@ returns-then-m-gt0 c =
 
 pub returns-then-room-m : goal.returns-then-room-m
 returns-then-room-m c =
-    drafts_full _ _ _ _ _ _ _ _ _ c.seek.ensures c.in-At.is _ c.measured-m.ensures (omega (arith, c.if-b-a.false)) _ (omega (arith, c.if-m-gt0.false)) c.if-room-m.true c.refused_with-then-room-m.ensures
+    drafts_full _ _ _ _ _ _ _ _ _ c.seek.ensures c.in-At.is _ c.measured-m.ensures (omega (arith, c.if-b-a.false)) _ (omega (arith, c.if-m-gt0.false)) (omega (arith, c.if-room-m.true)) c.refused_with-then-room-m.ensures
 
 pub returns-in-Refused : goal.returns-in-Refused
 returns-in-Refused c =

@@ -1,5 +1,6 @@
 -- `step` meets its contract: what is due and the length of the piece decide, in the order of the definition. Assumes nothing.
 use mathlib.Core.Path.{refl}
+use native.Mathlib.Omega.{arith}
 use borrow.Author.Tests.{eq-eqb, ne_eqb}
 use Rattle.reader.specs.Stream.{lent}
 use Rattle.reader.proofs.Calls.{step_settled}
@@ -23,11 +24,11 @@ returns-then-heard-eq0 c =
     let a = c.args in
     let w = all_there a.self a.piece.now c.size-size.ensures c.missing-lacks.ensures c.halts.ensures c.if-halts.false in
     let s = step_settled (lent a.self a.carry.now) a.piece.now w.1 w.0 w.2 c.hear-heard.ensures.0 c.hear-heard.ensures.1 in
-    rw (c.passed.ensures, s, eq-eqb _ _ c.if-heard-eq0.true) (refl, refl)
+    rw (c.passed.ensures, s, eq-eqb c.hear-heard.result.number 0 (omega (arith, c.if-heard-eq0.true))) (refl, refl)
 
 pub returns-else-heard-eq0 : goal.returns-else-heard-eq0
 returns-else-heard-eq0 c =
     let a = c.args in
     let w = all_there a.self a.piece.now c.size-size.ensures c.missing-lacks.ensures c.halts.ensures c.if-halts.false in
     let s = step_settled (lent a.self a.carry.now) a.piece.now w.1 w.0 w.2 c.hear-heard.ensures.0 c.hear-heard.ensures.1 in
-    rw (c.failed.ensures, s, ne_eqb _ _ c.if-heard-eq0.false) (refl, refl)
+    rw (c.failed.ensures, s, ne_eqb c.hear-heard.result.number 0 (λ e. omega (arith, c.if-heard-eq0.false, e))) (refl, refl)

@@ -5,7 +5,7 @@ use Rattle.shardline.proofs.feed.fed.Goals as goal
 
 pub returns-then-answer-eq0 : goal.returns-then-answer-eq0
 returns-then-answer-eq0 c =
-    so_refused c.loop-at.r c.args.piece.now c.loop-at.at c.step-step.result c.step-step.ensures c.args.reader c.loop-at.invariant.1 c.loop-at-test.true c.if-answer-eq0.true
+    so_refused c.loop-at.r c.args.piece.now c.loop-at.at c.step-step.result c.step-step.ensures c.args.reader c.loop-at.invariant.1 c.loop-at-test.true (omega (arith, c.if-answer-eq0.true))
 
 pub overflow_add-at : goal.overflow_add-at
 overflow_add-at c =
@@ -13,7 +13,7 @@ overflow_add-at c =
 
 pub loop-at-preserved : goal.loop-at-preserved
 loop-at-preserved c =
-    (omega (arith, within c.loop-at.r c.args.piece.now c.loop-at.at c.step-step.result c.step-step.ensures), so_on c.loop-at.r c.args.piece.now c.loop-at.at c.step-step.result c.step-step.ensures c.args.reader c.loop-at.invariant.1 (λ i. omega (arith, c.type_inv.piece i)) c.if-answer-eq0.false)
+    (omega (arith, within c.loop-at.r c.args.piece.now c.loop-at.at c.step-step.result c.step-step.ensures), so_on c.loop-at.r c.args.piece.now c.loop-at.at c.step-step.result c.step-step.ensures c.args.reader c.loop-at.invariant.1 (λ i. omega (arith, c.type_inv.piece i)) (λ e. omega (arith, c.if-answer-eq0.false, e)))
 
 pub returns : goal.returns
 returns c =
