@@ -1,4 +1,5 @@
 -- The claims of the audit, because either no segment is false or there is a first that is. Assumes nothing.
+use Rattle.std.specs.Prelude.{Result, Ok, Err}
 use mathlib.Core.Path.{◌≡◌, refl, sym, ap, ◌∙◌, subst}
 use mathlib.Core.Logic.{◌⊎◌, inl, inr}
 use mathlib.Core.Bool.{Bool, true, false, true≢false}
@@ -12,8 +13,7 @@ use Rattle.words.specs.Le.{Bytes}
 use Rattle.words.specs.Record.{same_hash, words_at}
 use Rattle.words.proofs.Records.{hash_same, same_self}
 use Rattle.words.specs.declared.Refusal.{Refusal}
-use Rattle.rules.specs.declared.Verdict.{Verdict}
-use Rattle.rules.specs.declared.Verdict.TheVariants as verdict
+use Rattle.rules.specs.Verdicts.{Verdict}
 use Rattle.layout.specs.Layout.{Hash, Segment, FileBlock, XorbBlock, Shard, Row, Each, sum_of, file_rows, segment_row, rows_of, xorb_section, totals_of}
 use Rattle.layout.specs.Blocks.{other_rows, entry_rows, file_block, blocks_then, Stand}
 use Rattle.layout.specs.Claim.{Spells}
@@ -26,8 +26,6 @@ use Rattle.finder.proofs.Sections.{file_section_lem}
 use Rattle.audit.specs.Audit.{is_listed, is_false, PlacedSegment, first_false, listed_of, unlisted_of, counts_of, false_at, answer_to, audit_in, placed_behind, placed_from, placed_of, audit_for, audit_of}
 use Rattle.audit.specs.Claims.{False, NoneFalse, FirstFalse, Passes, Fails, AuditClaim}
 use Rattle.audit.specs.declared.Counts.{Counts}
-use Rattle.audit.specs.declared.Audited.{Audited}
-use Rattle.audit.specs.declared.Audited.TheVariants as audited
 use Rattle.audit.proofs.Firsts.{first_to, first_from, absent_to, absent_from, listed_to, listed_from, true_to, true_from, false_to, false_from}
 use Rattle.audit.proofs.Begin.{audit_refused, audit_shard}
 
@@ -86,29 +84,29 @@ module _ (s : Shard) where
   abbrev FirstIs : Option ℕ → Type 0
   FirstIs o = first_false s.xorbs (placed_of s) ≡ o
 
-  passes_to : (c : Counts) → audit_for s ≡ audited.Counted c → Passes s c
+  passes_to : (c : Counts) → audit_for s ≡ Ok c → Passes s c
   unfolding audit_in
   passes_to c e = go (first_false s.xorbs (placed_of s)) refl e
     where
-      go : (o : Option ℕ) → FirstIs o → answer_to o counts ≡ audited.Counted c → Passes s c
+      go : (o : Option ℕ) → FirstIs o → answer_to o counts ≡ Ok c → Passes s c
       go none q f = let k : counts ≡ c = cc in record { none = none_to s.xorbs (placed_of s) q; are = sym k }
       go (some at) q f = let z : ◌≡◌ {A = ℕ} 0 1 = cc in absurd (omega arith)
 
-  passes_from : (c : Counts) → Passes s c → audit_for s ≡ audited.Counted c
+  passes_from : (c : Counts) → Passes s c → audit_for s ≡ Ok c
   unfolding audit_in
-  passes_from c p = ap (λ (o : Option ℕ). answer_to o counts) (none_from s.xorbs (placed_of s) p.none) ∙ ap audited.Counted (sym p.are)
+  passes_from c p = ap (λ (o : Option ℕ). answer_to o counts) (none_from s.xorbs (placed_of s) p.none) ∙ ap Ok (sym p.are)
 
-  fails_to : (r : Refusal) → audit_for s ≡ audited.Refused r → Fails s r
+  fails_to : (r : Refusal) → audit_for s ≡ Err r → Fails s r
   unfolding audit_in
   fails_to r e = go (first_false s.xorbs (placed_of s)) refl e
     where
-      go : (o : Option ℕ) → FirstIs o → answer_to o counts ≡ audited.Refused r → Fails s r
+      go : (o : Option ℕ) → FirstIs o → answer_to o counts ≡ Err r → Fails s r
       go none q f = let z : ◌≡◌ {A = ℕ} 0 1 = cc in absurd (omega arith)
       go (some at) q f = let k : false_at at ≡ r = cc in record { at = at; first = at_to s.xorbs (placed_of s) at q; is = sym k }
 
-  fails_from : (r : Refusal) → Fails s r → audit_for s ≡ audited.Refused r
+  fails_from : (r : Refusal) → Fails s r → audit_for s ≡ Err r
   unfolding audit_in
-  fails_from r f = ap (λ (o : Option ℕ). answer_to o counts) (at_from s.xorbs (placed_of s) f.at f.first) ∙ ap audited.Refused (sym f.is)
+  fails_from r f = ap (λ (o : Option ℕ). answer_to o counts) (at_from s.xorbs (placed_of s) f.at f.first) ∙ ap Err (sym f.is)
 
 -- ## Their number and their positions
 
@@ -159,26 +157,26 @@ there_of tag bytes s t x = there_from bytes 48 s.files (xorb_section s) (subst (
 -- ## What the answer says
 
 module _ (tag bytes : List ℕ) (t : Bytes tag) (b : Bytes bytes) where
-  counts_say : (c : Counts) → audit_of tag bytes ≡ audited.Counted c → (s : Shard) × Spells tag s bytes × Passes s c
+  counts_say : (c : Counts) → audit_of tag bytes ≡ Ok c → (s : Shard) × Spells tag s bytes × Passes s c
   unfolding audit_of
   counts_say c e =
-      let a : IsAccepted (found_in tag bytes).verdict = was_accepted audited.Refused (λ (x : Audited). x ≡ audited.Counted c) (found_in tag bytes).verdict _
+      let a : IsAccepted (found_in tag bytes).verdict = was_accepted Err (λ (x : Result Counts Refusal). x ≡ Ok c) (found_in tag bytes).verdict _
       (λ r q. let z : ◌≡◌ {A = ℕ} 0 1 = cc in absurd (omega arith)) e in
       let (s, o) = tree_of tag (tag_size tag bytes a) t bytes b a in
       (s, o.spells, passes_to s c (sym (audit_shard tag bytes s o) ∙ e))
 
-  refusal_says : (r : Refusal) → audit_of tag bytes ≡ audited.Refused r → (found_in tag bytes).verdict ≡ verdict.Refused r ⊎ ((s : Shard) × Spells tag s bytes × Fails s r)
+  refusal_says : (r : Refusal) → audit_of tag bytes ≡ Err r → (found_in tag bytes).verdict ≡ Err r ⊎ ((s : Shard) × Spells tag s bytes × Fails s r)
   refusal_says r e = go (found_in tag bytes).verdict refl
     where
-      go : (v : Verdict) → (found_in tag bytes).verdict ≡ v → (found_in tag bytes).verdict ≡ verdict.Refused r ⊎ ((s : Shard) × Spells tag s bytes × Fails s r)
-      go (verdict.Accepted m) q =
+      go : (v : Verdict) → (found_in tag bytes).verdict ≡ v → (found_in tag bytes).verdict ≡ Err r ⊎ ((s : Shard) × Spells tag s bytes × Fails s r)
+      go (Ok m) q =
           let a : IsAccepted (found_in tag bytes).verdict = subst IsAccepted (sym q) tt in
           let (s, o) = tree_of tag (tag_size tag bytes a) t bytes b a in
           inr (s, o.spells, fails_to s r (sym (audit_shard tag bytes s o) ∙ e))
-      go (verdict.Refused x) q =
-          let k : audited.Refused x ≡ audited.Refused r = sym (audit_refused tag bytes x q) ∙ e in
+      go (Err x) q =
+          let k : Err x ≡ Err r = sym (audit_refused tag bytes x q) ∙ e in
           let p : x ≡ r = cc in
-          inl (q ∙ ap verdict.Refused p)
+          inl (q ∙ ap Err p)
 
 pub audits : AuditClaim
 audits = record {

@@ -1,21 +1,20 @@
 -- The walk over xorb heads, step by step: the first block of that hash is among those still to come, because those passed had another one and each head
 -- says how many chunks follow it. Assumes nothing.
+use Rattle.std.specs.Prelude.{Option, Some, None}
 use mathlib.Core.Path.{◌≡◌, refl, sym, ap, ◌∙◌}
 use mathlib.Core.Bool.{Bool, true, false}
 use mathlib.Core.Option.{some}
 use mathlib.Core.List.{List, []}
-use Prim.Native.Nat.{ℕ, ◌+◌, ◌*◌, ◌≤◌, ◌<◌}
-use lib.ListN.{length}
+use Prim.Native.Nat.{ℕ, ◌+◌, ◌-◌, ◌*◌, ◌≤◌, ◌<◌}
+use lib.ListN.{length, take, drop}
 use Rattle.words.specs.Checks.{pick}
 use Rattle.words.specs.Record.{words_at, same_hash, is_ones}
 use Rattle.words.specs.declared.Words.{Words}
 use Rattle.layout.specs.Layout.{XorbBlock}
 use Rattle.layout.specs.Blocks.{segment_of}
 use Rattle.finder.proofs.Heads.{xorb_heads, Head, head_room, at_bookend, at_head, next_due}
-use Rattle.audit.specs.Walk.{true_at, compared_with, compared_in, XorbsAt, Compares}
-use Rattle.audit.specs.declared.blocks.Compared.{Compared}
-use Rattle.audit.specs.declared.blocks.Compared.TheVariants as compared
-use Rattle.audit.proofs.Sums.{true_is}
+use Rattle.audit.specs.Walk.{compared_with, compared_in, XorbsAt, Compares}
+use Rattle.audit.proofs.Sums.{true_by, true_is}
 
 -- blocks stand at a position, and whatever stood where the walk began, these give its answer
 pub record BlocksLeft (bytes : List ℕ) (from at : ℕ) (segment : Words) : Type 0 where
@@ -26,7 +25,7 @@ pub left_begins : (bytes : List ℕ) (from : ℕ) (segment : Words) (xs : List X
 left_begins bytes from segment xs h = record { some_left = (xs, h); says = λ ys b. (ys, b, refl) }
 
 module _ (bytes : List ℕ) (from at : ℕ) (segment : Words) (c : BlocksLeft bytes from at segment) where
-  abbrev answer : List XorbBlock → Compared
+  abbrev answer : List XorbBlock → Option Bool
   answer xs = compared_in xs (segment_of segment)
 
   -- a record is there
@@ -35,7 +34,7 @@ module _ (bytes : List ℕ) (from at : ℕ) (segment : Words) (c : BlocksLeft by
 
   module _ (head : Words) (read : head ≡ words_at bytes at) where
     -- the bookend: it is not listed
-    pub not_listed : is_ones head.hash ≡ true → Compares bytes from segment compared.Unlisted
+    pub not_listed : is_ones head.hash ≡ true → Compares bytes from segment None
     unfolding compared_in
     not_listed o ys b = let (xs, h, e) = c.says ys b in sym (e ∙ ap answer (at_bookend xorb_heads bytes at [] head read xs h.sound h.stand o))
 
@@ -62,10 +61,11 @@ module _ (bytes : List ℕ) (from at : ℕ) (segment : Words) (c : BlocksLeft by
           ap answer (this xs h).are ∙ rw k refl
 
       -- it is: this block decides
-      pub decided : same_hash head.hash segment.hash ≡ true → segment.c < segment.d → (b : Bool) → b ≡ true_at bytes (at + 48) head segment → Compares bytes from segment (pick b compared.True compared.False)
-      decided q d b g ys s =
+      pub decided : same_hash head.hash segment.hash ≡ true → segment.c < segment.d → (part : List ℕ) → part ≡ take (at + 48 + 48 * head.b - (at + 48)) (drop (at + 48) bytes)
+          → (b : Bool) → b ≡ true_by head part segment → Compares bytes from segment (Some b)
+      decided q d part there b g ys s =
           let (xs, h, e) = c.says ys s in
-          ap (λ (t : Bool). pick t compared.True compared.False) (g ∙ true_is bytes (at + 48) (this xs h).block _ head segment (this xs h).words (this xs h).stand d)
+          ap (λ (t : Bool). Some t) (g ∙ true_is bytes (at + 48) (this xs h).block _ (this xs h).stand head (this xs h).words part there segment d)
           ∙ sym (e ∙ named true q xs h)
 
       -- it is not: the next head is behind its chunks

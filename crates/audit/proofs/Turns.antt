@@ -1,7 +1,9 @@
 -- The walk over file heads and their segments, step by step: what is still to come gives the answer for the whole, because those passed were not false and
 -- are counted. Assumes nothing.
+use Rattle.std.specs.Prelude.{Result, Ok, Err, Option, Some, None}
+use Rattle.words.specs.declared.Refusal.{Refusal}
 use mathlib.Core.Path.{◌≡◌, refl, sym, ap, ◌∙◌, subst}
-use mathlib.Core.Bool.{true, false}
+use mathlib.Core.Bool.{Bool, true, false}
 use mathlib.Core.List.{List, [], ◌∷◌, ◌++◌, map}
 use Prim.Native.Nat.{ℕ, ◌+◌, ◌-◌, ◌*◌, ◌≤◌, ◌<◌}
 use native.Mathlib.Omega.{arith}
@@ -15,15 +17,12 @@ use Rattle.layout.proofs.FilesForth.{length_file}
 use Rattle.layout.proofs.Leading.{segments_first}
 use Rattle.finder.proofs.Heads.{file_heads, Head, head_room, at_bookend, at_head, next_due}
 use Rattle.audit.specs.Audit.{PlacedSegment, first_false, false_at, placed_behind, placed_from}
+use Rattle.audit.specs.declared.Counts.{Counts}
 use Rattle.audit.specs.Walk.{compared_in, XorbsAt, Comparable, Compares}
-use Rattle.audit.specs.declared.Audited.{Audited}
-use Rattle.audit.specs.declared.Audited.TheVariants as audited
-use Rattle.audit.specs.declared.blocks.Compared.{Compared}
-use Rattle.audit.specs.declared.blocks.Compared.TheVariants as compared
 use Rattle.audit.proofs.Counting.{audit_from, pass_unlisted, pass_true, stop_false}
 
 -- at a position so many segments of a file, of which the next head is due at another; then files; so many segments of either kind came before
-pub record SegmentsLeft (bytes : List ℕ) (from : ℕ) (answer : Audited) (next at left listed unlisted : ℕ) : Type 0 where
+pub record SegmentsLeft (bytes : List ℕ) (from : ℕ) (answer : Result Counts Refusal) (next at left listed unlisted : ℕ) : Type 0 where
   pub xorbs : List XorbBlock
   pub there : XorbsAt bytes from xorbs
   pub segments : List Segment
@@ -42,7 +41,7 @@ pub record SegmentsLeft (bytes : List ℕ) (from : ℕ) (answer : Audited) (next
 
 -- ## Where a head is due
 
-module _ (bytes : List ℕ) (from : ℕ) (answer : Audited) (at l u : ℕ) (c : SegmentsLeft bytes from answer at at 0 l u) where
+module _ (bytes : List ℕ) (from : ℕ) (answer : Result Counts Refusal) (at l u : ℕ) (c : SegmentsLeft bytes from answer at at 0 l u) where
   -- what is known of the files that are left
   abbrev Says : List FileBlock → Type 0
   Says fs = audit_from c.xorbs l u (placed_from at fs) ≡ answer
@@ -59,12 +58,12 @@ module _ (bytes : List ℕ) (from : ℕ) (answer : Audited) (at l u : ℕ) (c : 
 
   module _ (w : Words) (read : w ≡ words_at bytes at) where
     -- the bookend: these are the counts
-    pub all_passed : is_ones w.hash ≡ true → audited.Counted (record { listed = l; unlisted = u }) ≡ answer
+    pub all_passed : is_ones w.hash ≡ true → Ok (record { listed = l; unlisted = u }) ≡ answer
     unfolding first_false
     all_passed e =
         let n : l ≡ l + 0 = omega arith in
         let m : u ≡ u + 0 = omega arith in
-        ap (λ (x : ℕ). audited.Counted (record { listed = x; unlisted = u })) n ∙ ap (λ (x : ℕ). audited.Counted (record { listed = l + 0; unlisted = x })) m
+        ap (λ (x : ℕ). Ok (record { listed = x; unlisted = u })) n ∙ ap (λ (x : ℕ). Ok (record { listed = l + 0; unlisted = x })) m
         ∙ subst Says (at_bookend file_heads bytes at c.later w read c.files c.files_sound c.stand e) says
 
     -- a head: its segments come first
@@ -94,7 +93,7 @@ module _ (bytes : List ℕ) (from : ℕ) (answer : Audited) (at l u : ℕ) (c : 
 
 -- ## At a segment
 
-module _ (bytes : List ℕ) (from : ℕ) (answer : Audited) (next at i n l u : ℕ) where
+module _ (bytes : List ℕ) (from : ℕ) (answer : Result Counts Refusal) (next at i n l u : ℕ) where
   -- behind the last one of its file
   pub file_over : n ≤ i → SegmentsLeft bytes from answer next at (n - i) l u → (p : ℕ) → p ≡ next → SegmentsLeft bytes from answer p p 0 l u
   file_over z c p e = rw e (record {
@@ -149,12 +148,12 @@ module _ (bytes : List ℕ) (from : ℕ) (answer : Audited) (next at i n l u : �
           let d = first.is_sound.start_end in
           record { blocks = c.xorbs; there = c.there; start_end = rw (read ∙ first.words) d; short = c.short }
 
-      module _ (r : Compared) (q : Compares bytes from w r) where
+      module _ (r : Option Bool) (q : Compares bytes from w r) where
         -- what is answered for what was read is answered for the segment in the tree
         is : r ≡ compared_in c.xorbs first.segment
         is = q c.xorbs c.there ∙ ap (λ (v : Words). compared_in c.xorbs (segment_of v)) (read ∙ first.words)
 
-        pub false_one : r ≡ compared.False → audited.Refused (false_at at) ≡ answer
+        pub false_one : r ≡ Some false → Err (false_at at) ≡ answer
         false_one e = sym (stop_false c.xorbs l u _ _ (sym e ∙ is)) ∙ first.says
 
         -- it is passed, and counted
@@ -183,8 +182,8 @@ module _ (bytes : List ℕ) (from : ℕ) (answer : Audited) (next at i n l u : �
           short = c.short;
         }
 
-        pub next_unlisted : r ≡ compared.Unlisted → (m v : ℕ) → m ≡ l → v ≡ u + 1 → Passed m v
-        next_unlisted e m v y z = rw (y, z) (passed l (u + 1) (omega arith) (pass_unlisted c.xorbs l u _ _ (sym e ∙ is)))
+        pub next_unlisted : r ≡ None → (k : Counts) → k ≡ record { listed = l; unlisted = u + 1 } → (p : ℕ) → p ≡ at + 48 → SegmentsLeft bytes from answer next p (n - (i + 1)) k.listed k.unlisted
+        next_unlisted e k y p q = rw (q, y) (passed l (u + 1) (omega arith) (pass_unlisted c.xorbs l u _ _ (sym e ∙ is)))
 
-        pub next_true : r ≡ compared.True → (m v : ℕ) → m ≡ l + 1 → v ≡ u → Passed m v
-        next_true e m v y z = rw (y, z) (passed (l + 1) u (omega arith) (pass_true c.xorbs l u _ _ (sym e ∙ is)))
+        pub next_true : r ≡ Some true → (k : Counts) → k ≡ record { listed = l + 1; unlisted = u } → (p : ℕ) → p ≡ at + 48 → SegmentsLeft bytes from answer next p (n - (i + 1)) k.listed k.unlisted
+        next_true e k y p q = rw (q, y) (passed (l + 1) u (omega arith) (pass_true c.xorbs l u _ _ (sym e ∙ is)))

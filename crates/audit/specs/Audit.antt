@@ -1,6 +1,6 @@
 -- THE AUDIT: what a segment says of a xorb that the same shard lists is held against that xorb's chunks; for any tag and any bytes.
 -- Numbers are natural numbers, and a difference below zero is 0.
-use Rattle.std.specs.Prelude.{ℕ, ◌+◌, ◌-◌, ◌*◌, Bool, false, ◌&&◌, not, List, [], ◌∷◌, ◌++◌, map, eqb, leb, length, take, drop}
+use Rattle.std.specs.Prelude.{ℕ, ◌+◌, ◌-◌, ◌*◌, Bool, false, ◌&&◌, not, List, [], ◌∷◌, ◌++◌, map, eqb, leb, length, take, drop, Result, Ok, Err}
 use Rattle.std.proofs.Math.Option.{Option, none, some}
 use Rattle.words.specs.Checks.{pick}
 use Rattle.words.specs.Record.{same_hash}
@@ -13,8 +13,6 @@ use Rattle.layout.specs.Layout.{Hash, Segment, FileBlock, Chunk, XorbBlock, Shar
 use Rattle.layout.specs.Scan.{found_in, if_accepted}
 use Rattle.layout.specs.Blocks.{segment_of, chunk_of, leading}
 use Rattle.audit.specs.declared.Counts.{Counts}
-use Rattle.audit.specs.declared.Audited.{Audited}
-use Rattle.audit.specs.declared.Audited.TheVariants as audited
 use Rattle.audit.specs.declared.AuditedNumbers.{AuditedNumbers}
 
 -- ## One segment
@@ -76,16 +74,16 @@ abbrev pub false_at : ℕ → Refusal
 false_at at = refused_at at 22
 
 -- 22 at the first false segment, or the counts if there is none
-abbrev pub answer_to : Option ℕ → Counts → Audited
-answer_to none counts = audited.Counted counts
-answer_to (some at) counts = audited.Refused (false_at at)
+abbrev pub answer_to : Option ℕ → Counts → Result Counts Refusal
+answer_to none counts = Ok counts
+answer_to (some at) counts = Err (false_at at)
 
 -- the paper's numbers for each case: the two counts, or the refusal
-abbrev pub audited_numbers : Audited → AuditedNumbers
-audited_numbers (audited.Counted counts) = record { listed = counts.listed; unlisted = counts.unlisted; at = 0; number = 0 }
-audited_numbers (audited.Refused refusal) = record { listed = 0; unlisted = 0; at = refusal.at.0; number = refusal.number }
+abbrev pub audited_numbers : Result Counts Refusal → AuditedNumbers
+audited_numbers (Ok counts) = record { listed = counts.listed; unlisted = counts.unlisted; at = 0; number = 0 }
+audited_numbers (Err refusal) = record { listed = 0; unlisted = 0; at = refusal.at.0; number = refusal.number }
 
-unfoldable pub audit_in : List XorbBlock → List PlacedSegment → Audited
+unfoldable pub audit_in : List XorbBlock → List PlacedSegment → Result Counts Refusal
 audit_in xorbs ps = answer_to (first_false xorbs ps) (counts_of xorbs ps)
 
 -- ## In the tree
@@ -104,7 +102,7 @@ placed_from at (f ∷ fs) = placed_behind (at + 48) f.segments ++ placed_from (a
 abbrev pub placed_of : Shard → List PlacedSegment
 placed_of s = placed_from 48 s.files
 
-abbrev pub audit_for : Shard → Audited
+abbrev pub audit_for : Shard → Result Counts Refusal
 audit_for s = audit_in s.xorbs (placed_of s)
 
 -- ## In bytes
@@ -120,5 +118,5 @@ blocks_in [] = []
 blocks_in (r ∷ rs) = pick (same_kind r.kind kind.XorbHead) (record { hash = r.words.hash; disk = r.words.d; chunks = map chunk_of (leading kind.Chunk rs) } ∷ blocks_in rs) (blocks_in rs)
 
 -- the shard's own refusal comes first
-unfoldable pub audit_of : List ℕ → List ℕ → Audited
-audit_of tag shard = if_accepted audited.Refused (found_in tag shard).verdict (λ s. audit_in (blocks_in (found_in tag shard).records) (placed_in (found_in tag shard).records))
+unfoldable pub audit_of : List ℕ → List ℕ → Result Counts Refusal
+audit_of tag shard = if_accepted Err (found_in tag shard).verdict (λ s. audit_in (blocks_in (found_in tag shard).records) (placed_in (found_in tag shard).records))

@@ -1,18 +1,16 @@
 -- THE CLAIMS OF THE AUDIT, proved in proofs/AuditClaims: in an accepted shard the answer is that of its tree. It is 22 exactly if some segment is false, and
 -- then at the first; else the counts are those of the segments whose xorb is listed and of the others, and add up to all of them. And the verdict on the
 -- shard does not depend on it.
-use Rattle.std.specs.Prelude.{◌≡◌, ◌↔◌, ◌⊎◌, true, false, List, ◌∷◌, ◌++◌, ℕ, ◌+◌, ◌≤◌, length}
+use Rattle.std.specs.Prelude.{◌≡◌, ◌↔◌, ◌⊎◌, true, false, List, ◌∷◌, ◌++◌, ℕ, ◌+◌, ◌≤◌, length, Ok, Err}
 use Rattle.std.proofs.Math.Option.{none, some}
 use Rattle.words.specs.Le.{Bytes}
 use Rattle.words.specs.Record.{IsHash, same_hash, words_at}
 use Rattle.words.specs.declared.Refusal.{Refusal}
-use Rattle.rules.specs.declared.Verdict.TheVariants as verdict
 use Rattle.layout.specs.Layout.{Hash, Segment, XorbBlock, Shard, Each, segment_row, totals_of}
 use Rattle.layout.specs.Scan.{found_in}
 use Rattle.layout.specs.Claim.{summary_for, Spells}
 use Rattle.audit.specs.Audit.{first_block, is_listed, bytes_between, is_true_of, PlacedSegment, counts_of, false_at, placed_of, audit_for, audit_of}
 use Rattle.audit.specs.declared.Counts.{Counts}
-use Rattle.audit.specs.declared.Audited.TheVariants as audited
 
 -- ## Words for the claims
 
@@ -66,11 +64,11 @@ pub record Fails (s : Shard) (r : Refusal) : Type 0 where
 
 pub record AuditClaim : Type 0 where
   -- a refused shard gives its refusal
-  pub refused : (tag bytes : List ℕ) (r : Refusal) → (found_in tag bytes).verdict ≡ verdict.Refused r → audit_of tag bytes ≡ audited.Refused r
+  pub refused : (tag bytes : List ℕ) (r : Refusal) → (found_in tag bytes).verdict ≡ Err r → audit_of tag bytes ≡ Err r
   -- an accepted one is spelled by a tree, and the answer is that of the tree
   pub shard : (tag bytes : List ℕ) (s : Shard) → Bytes tag → length tag ≡ 32 → Spells tag s bytes → audit_of tag bytes ≡ audit_for s
   -- whatever that is, the verdict on the shard is what it was
-  pub apart : (tag bytes : List ℕ) (s : Shard) → Bytes tag → length tag ≡ 32 → Spells tag s bytes → (found_in tag bytes).verdict ≡ verdict.Accepted (summary_for s)
+  pub apart : (tag bytes : List ℕ) (s : Shard) → Bytes tag → length tag ≡ 32 → Spells tag s bytes → (found_in tag bytes).verdict ≡ Ok (summary_for s)
   -- its segments stand at their positions, and are all that the totals count
   pub there : (tag bytes : List ℕ) (s : Shard) → Bytes tag → Spells tag s bytes → Each (λ p. words_at bytes p.at ≡ (segment_row p.segment).words) (placed_of s)
   pub all : (s : Shard) → length (placed_of s) ≡ (totals_of s).segments
@@ -82,11 +80,11 @@ pub record AuditClaim : Type 0 where
   pub listed_if : (xorbs : List XorbBlock) (s : Segment) → is_listed xorbs s ≡ true ↔ ((x : XorbBlock) × FirstOf s.xorb xorbs x)
   pub true_if : (x : XorbBlock) (s : Segment) → is_true_of x s ≡ true ↔ True x s
   -- counts exactly if no segment is false, and 22 exactly at the first that is
-  pub counted_if : (s : Shard) (counts : Counts) → audit_for s ≡ audited.Counted counts ↔ Passes s counts
-  pub refused_if : (s : Shard) (r : Refusal) → audit_for s ≡ audited.Refused r ↔ Fails s r
+  pub counted_if : (s : Shard) (counts : Counts) → audit_for s ≡ Ok counts ↔ Passes s counts
+  pub refused_if : (s : Shard) (r : Refusal) → audit_for s ≡ Err r ↔ Fails s r
   -- the two counts add up to the number of segments
-  pub sum : (s : Shard) (counts : Counts) → audit_for s ≡ audited.Counted counts → counts.listed + counts.unlisted ≡ (totals_of s).segments
+  pub sum : (s : Shard) (counts : Counts) → audit_for s ≡ Ok counts → counts.listed + counts.unlisted ≡ (totals_of s).segments
   -- what a host knows from the answer alone, of any bytes
-  pub counts_say : (tag bytes : List ℕ) (counts : Counts) → Bytes tag → Bytes bytes → audit_of tag bytes ≡ audited.Counted counts → (s : Shard) × Spells tag s bytes × Passes s counts
-  pub refusal_says : (tag bytes : List ℕ) (r : Refusal) → Bytes tag → Bytes bytes → audit_of tag bytes ≡ audited.Refused r
-      → (found_in tag bytes).verdict ≡ verdict.Refused r ⊎ ((s : Shard) × Spells tag s bytes × Fails s r)
+  pub counts_say : (tag bytes : List ℕ) (counts : Counts) → Bytes tag → Bytes bytes → audit_of tag bytes ≡ Ok counts → (s : Shard) × Spells tag s bytes × Passes s counts
+  pub refusal_says : (tag bytes : List ℕ) (r : Refusal) → Bytes tag → Bytes bytes → audit_of tag bytes ≡ Err r
+      → (found_in tag bytes).verdict ≡ Err r ⊎ ((s : Shard) × Spells tag s bytes × Fails s r)

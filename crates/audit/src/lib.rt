@@ -12,21 +12,15 @@ mod segments;
 pub use segments::audit;
 
 // How many segments name a xorb that the shard lists, and how many name another.
-#[derive(Clone, Copy)]
+#[derive(Clone, Copy, Debug, PartialEq, Eq)]
 pub struct Counts {
     pub listed: u64,
     pub unlisted: u64,
 }
 
-#[derive(Clone, Copy)]
-pub enum Audited {
-    Counted(Counts),
-    Refused(Refusal),
-}
-
 // The paper's numbers for what an audit gives: how many segments name a listed xorb and how many another, or zeros and the refusal.
 #[repr(C)]
-#[derive(Clone, Copy)]
+#[derive(Clone, Copy, Debug, PartialEq, Eq)]
 pub struct AuditedNumbers {
     pub listed: u64,
     pub unlisted: u64,
@@ -34,18 +28,18 @@ pub struct AuditedNumbers {
     pub number: u32,
 }
 
-impl Audited {
-    pub fn numbers(self) -> AuditedNumbers
-        ensures { result ≡ audited_numbers self }
-    {
-        match self {
-            Audited::Counted(counts) => AuditedNumbers {
+impl From<Result<Counts, Refusal>> for AuditedNumbers {
+    ghost from_gives = { λ audited numbers. numbers ≡ audited_numbers audited };
+
+    fn from(audited: Result<Counts, Refusal>) -> AuditedNumbers {
+        match audited {
+            Ok(counts) => AuditedNumbers {
                 listed: counts.listed,
                 unlisted: counts.unlisted,
                 at: 0,
                 number: 0,
             },
-            Audited::Refused(refusal) => AuditedNumbers {
+            Err(refusal) => AuditedNumbers {
                 listed: 0,
                 unlisted: 0,
                 at: refusal.at.0,

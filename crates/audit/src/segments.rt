@@ -2,46 +2,42 @@
 ghost use Rattle.std.specs.Prelude.{◌≡◌};
 ghost use Rattle.audit.specs.Audit.{audit_of};
 
-use crate::blocks::{Compared, compare};
-use crate::{Audited, Counts};
-use rules::{Verdict, further_records};
+use crate::Counts;
+use crate::blocks::compare;
+use rules::further_records;
 use whole::last_place;
 use words::hash::is_ones;
-use words::{Position, Refusal, Words};
+use words::{Position, Refusal, Stored, Words};
 
 // The two counts; or 22 where the first false segment starts; or the shard's refusal.
-pub fn audit(tag: &[u8], shard: &[u8]) -> Audited
+pub fn audit(tag: &[u8], shard: &[u8]) -> Result<Counts, Refusal>
     ensures { result ≡ audit_of tag.now shard.now }
 {
     let place = last_place(tag, shard);
-    if let Verdict::Refused(refusal) = place.verdict() {
-        return Audited::Refused(refusal);
-    }
-    let offset = place.offset;
-    let xorbs = offset.0 as usize;
+    place.verdict()?;
+    let xorbs = place.offset.0 as usize;
+    let mut counts = Counts {
+        listed: 0,
+        unlisted: 0,
+    };
     let mut file = Words::SIZE;
-    let mut listed = 0;
-    let mut unlisted = 0;
     loop {
         let head = Words::read(shard, file);
-        let mark = head.hash;
-        if is_ones(mark) {
-            return Audited::Counted(Counts { listed, unlisted });
+        if is_ones(head.hash) {
+            return Ok(counts);
         }
-        let n = head.b;
-        let mut at = file + Words::SIZE;
-        let mut i = 0;
-        while i < n {
+        for i in 0..head.b {
+            let at = file + Words::SIZE * (1 + i as usize);
             match compare(shard, xorbs, Words::read(shard, at)) {
-                Compared::Unlisted => unlisted += 1,
-                Compared::True => listed += 1,
-                Compared::False => return Audited::Refused(Refusal {
-                    at: Position(at as u64),
-                    number: Refusal::FALSE_SEGMENT,
-                }),
+                None => counts.unlisted += 1,
+                Some(true) => counts.listed += 1,
+                Some(false) => {
+                    return Err(Refusal {
+                        at: Position(at as u64),
+                        number: Refusal::FALSE_SEGMENT,
+                    });
+                }
             }
-            at += Words::SIZE;
-            i += 1;
         }
         file += Words::SIZE * (1 + further_records(head.a, head.b) as usize);
     }

@@ -2,125 +2,85 @@
 // The answer is three lines, or one with the refusal. A library, so that several programs run it, each on its own input.
 #![tactic(auto)]
 
-use blobs::{Head, Tally, head_of};
-use input::{filled, read_past};
+use blobs::{Tally, head, head_of};
+use input::read_past;
 use std::io;
-use std::io::Read;
-use text::{line, refused, say};
+use std::io::{Read, Write};
+use text::input::{ReadFailed, read_full};
 use words::{Position, Refusal};
 
 mod input;
 
-// What reading came to: where the entry due starts, what was counted before it, the number of its refusal or 0, whether there may be
-// more, and whether a read failed.
-#[derive(Drop)]
-struct Reading {
-    at: u64,
+// Why an entry can't be counted: it is refused, with this number, or a read failed.
+#[derive(Debug, Drop)]
+enum Stop {
+    Refused(u32),
+    ReadFailed,
+}
+
+impl From<ReadFailed> for Stop {
+    fn from(_e: ReadFailed) -> Stop {
+        Stop::ReadFailed
+    }
+}
+
+// Reads the entry due: how many bytes of data it has, or none where the input ends before it.
+fn next<R: Read>(input: &mut R) -> Result<Option<u64>, Stop> {
+    let mut bytes = [0u8; head::SIZE];
+    let size = read_full(input, &mut bytes)?;
+    if size == 0 {
+        return Ok(None);
+    }
+    let length = head_of(&bytes[..size]).map_err(Stop::Refused)?;
+    if read_past(input, length)? < length {
+        return Err(Stop::Refused(Refusal::BLOB_DATA));
+    }
+    Ok(Some(length))
+}
+
+// The entries that were read: where the next one starts, and what they come to.
+#[derive(Clone, Copy, Debug, Default)]
+struct Entries {
+    end: u64,
     tally: Tally,
-    number: u32,
-    more: bool,
-    failed: bool,
 }
 
-impl Reading {
-    const START: Reading = Reading {
-        at: 0,
-        tally: Tally {
-            entries: 0,
-            bytes: 0,
-        },
-        number: 0,
-        more: true,
-        failed: false,
-    };
-
-    // Nothing more is read, for a refusal or at the end, or because a read failed.
-    fn stopped(self, number: u32, failed: bool) -> Reading {
-        let tally = self.tally;
-        Reading {
-            at: self.at,
-            tally: tally,
-            number: number,
-            more: false,
-            failed: failed,
-        }
-    }
-
+impl Entries {
     // An entry more, of so many bytes of data. All of them were read, and no input has so many that these sums wrap.
-    fn with_entry(self, length: u64) -> Reading {
-        let tally = self.tally;
-        let data = self.at.wrapping_add(Head::SIZE as u64);
-        Reading {
-            at: data.wrapping_add(length),
-            tally: Tally {
-                entries: tally.entries.wrapping_add(1),
-                bytes: tally.bytes.wrapping_add(length),
-            },
-            number: 0,
-            more: true,
-            failed: false,
-        }
+    fn add(&mut self, length: u64) {
+        let data = self.end.wrapping_add(head::SIZE as u64);
+        self.end = data.wrapping_add(length);
+        self.tally.entries = self.tally.entries.wrapping_add(1);
+        self.tally.bytes = self.tally.bytes.wrapping_add(length);
     }
 
-    // The data of an entry, read past; 29 where there are fewer.
-    fn past_data<R: Read>(self, input: &mut R, length: u64) -> Reading {
-        let data = read_past(input, length);
-        if data.failed {
-            self.stopped(0, true)
-        } else if data.size < length {
-            self.stopped(Refusal::BLOB_DATA, false)
-        } else {
-            self.with_entry(length)
+    // A proved loop has to end, and nothing says that the input does: so it takes so many turns at most, which no run uses up.
+    fn read_all<R: Read>(&mut self, input: &mut R) -> Result<(), Stop> {
+        for _ in 0..u64::MAX {
+            match next(input)? {
+                None => break,
+                Some(length) => self.add(length),
+            }
         }
+        Ok(())
     }
-
-    // The entry due. The end of the input is no fault where an entry would begin.
-    fn next<R: Read>(self, input: &mut R) -> Reading {
-        let mut bytes = [0u8; Head::SIZE];
-        let part = filled(input, &mut bytes);
-        let n = part.size;
-        if part.failed {
-            return self.stopped(0, true);
-        }
-        if n == 0 {
-            return self.stopped(0, false);
-        }
-        match head_of(&bytes[0..n]) {
-            Head::Fault(number) => self.stopped(number, false),
-            Head::Data(length) => self.past_data(input, length),
-        }
-    }
-}
-
-// A proved loop has to end, and nothing says that the input does. So the loop counts its turns down, from a number that no run uses up.
-fn read_all<R: Read>(input: &mut R) -> Reading {
-    let mut reading = Reading::START;
-    let mut turns = u64::MAX;
-    while turns > 0 && reading.more {
-        reading = reading.next(input);
-        turns -= 1;
-    }
-    reading
 }
 
 // Reads all of standard input and says what it is.
 pub fn run<R: Input + Print>(rt: &R) -> io::Result<()> {
     let mut input = rt.reader();
     let mut out = io::writer(rt);
-    let reading = read_all(&mut input);
-    let tally = reading.tally;
-    if reading.failed {
-        return line(&mut out, b"read failed in the entry at ", reading.at);
+    let mut entries = Entries::default();
+    match entries.read_all(&mut input) {
+        Ok(()) => {
+            writeln!(out, "entries {}", entries.tally.entries)?;
+            writeln!(out, "bytes {}", entries.tally.bytes)?;
+            writeln!(out, "ok {}", entries.end)
+        }
+        Err(Stop::Refused(number)) => {
+            let at = Position(entries.end);
+            writeln!(out, "{}", Refusal { at, number })
+        }
+        Err(Stop::ReadFailed) => writeln!(out, "read failed in the entry at {}", entries.end),
     }
-    if reading.number != 0 {
-        let refusal = Refusal {
-            at: Position(reading.at),
-            number: reading.number,
-        };
-        refused(&mut out, refusal)?;
-        return say(&mut out, b"\n");
-    }
-    line(&mut out, b"entries ", tally.entries)?;
-    line(&mut out, b"bytes ", tally.bytes)?;
-    line(&mut out, b"ok ", reading.at)
 }

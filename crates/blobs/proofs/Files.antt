@@ -1,5 +1,6 @@
 -- A whole file: a scan passes its entries one by one, any bytes are entries of sound blobs and a rest, and the blobs are the only ones, because a blob
 -- is what is found where its entry stands. Assumes nothing.
+use Rattle.std.specs.Prelude.{Result, Ok, Err}
 use mathlib.Core.Path.{◌≡◌, refl, sym, ap, ◌∙◌}
 use Prim.Native.Nat.{ℕ, zero, suc, ◌+◌, ◌-◌, ◌≤◌, ◌<◌}
 use native.Mathlib.Omega.{arith}
@@ -9,11 +10,8 @@ use lib.Seq.{drop-append_seam, drop-drop, get_or-drop}
 use Rattle.words.specs.Le.{Bytes}
 use Rattle.words.specs.Refusals.{refused_at}
 use Rattle.words.specs.declared.Refusal.{Refusal}
-use Rattle.blobs.specs.declared.Head.TheVariants as head
-use Rattle.blobs.specs.declared.Entry.{Entry}
-use Rattle.blobs.specs.declared.Entry.TheVariants as entry
+use Rattle.blobs.specs.declared.Parts.{Parts}
 use Rattle.blobs.specs.declared.Tally.{Tally}
-use Rattle.blobs.specs.declared.Scanned.TheVariants as scanned
 use Rattle.blobs.specs.Blobs.{Blob, Sound, AllSound, bytes_in, spell_entry, spell_all, whole_of, parts_at, entry_at, with_entry, none, scan_from, scan_of}
 use Rattle.blobs.specs.Claims.{Fate}
 use Rattle.blobs.proofs.Heads.{all_passed, Whole, is_whole, whole}
@@ -37,17 +35,17 @@ few (b ∷ bs) ok =
 
 -- ## Where an entry stands it is whole, and found
 
-whole_there : (l : List ℕ) (b : Blob) (z : List ℕ) → Stood l b z → whole_of l ≡ head.Data (length b.«data»)
+whole_there : (l : List ℕ) (b : Blob) (z : List ℕ) → Stood l b z → whole_of l ≡ Ok (length b.«data»)
 whole_there l b z st =
     let m = st.long in
     is_whole l (length b.«data») (record { said = all_passed l (length b.«data») st.good; within = omega arith })
 
-pub found_there : (s : List ℕ) (at : ℕ) (b : Blob) (z : List ℕ) → Stood (drop at s) b z → entry_at s at ≡ entry.Found (parts_at at (length b.«data»))
+pub found_there : (s : List ℕ) (at : ℕ) (b : Blob) (z : List ℕ) → Stood (drop at s) b z → entry_at s at ≡ Ok (parts_at at (length b.«data»))
 found_there s at b z st = sym (found s at (whole_there (drop at s) b z st))
 
 -- ## A refusal is that of the bytes from the position on
 
-pub alone : (before rest : List ℕ) (r : Refusal) → entry_at rest 0 ≡ entry.Refused r → entry_at (before ++ rest) (length before) ≡ entry.Refused (refused_at (length before) r.number)
+pub alone : (before rest : List ℕ) (r : Refusal) → entry_at rest 0 ≡ Err r → entry_at (before ++ rest) (length before) ≡ Err (refused_at (length before) r.number)
 alone before rest r e = sym (refused_by (before ++ rest) (length before) (rw (drop-append_seam before rest) (fault_of_lem rest r e)))
 
 -- ## A scan along entries
@@ -77,7 +75,7 @@ module _ (bs : List Blob) (rest s : List ℕ) (ok : AllSound bs) (e : spell_all 
   long : length s ≡ length (spell_all bs) + length rest
   long = ap length (sym e) ∙ length-append (spell_all bs) rest
 
-  pub counted_by : length rest ≡ 0 → scan_of s ≡ scanned.Counted (record { entries = length bs; bytes = bytes_in bs })
+  pub counted_by : length rest ≡ 0 → scan_of s ≡ Ok (record { entries = length bs; bytes = bytes_in bs })
   unfolding scan_of
   counted_by h =
       let f = few bs ok in
@@ -85,21 +83,21 @@ module _ (bs : List Blob) (rest s : List ℕ) (ok : AllSound bs) (e : spell_all 
       along bs rest s 0 none (length s) (length (spell_all bs)) (length bs) (bytes_in bs) (length s - length bs) ok (sym e) (omega arith) (omega arith) (omega arith) (omega arith)
       ∙ scan_end _ s _ _ (omega arith)
 
-  pub stopped_by : (r : Refusal) → 0 < length rest → entry_at rest 0 ≡ entry.Refused r → scan_of s ≡ scanned.Refused (refused_at (length (spell_all bs)) r.number)
+  pub stopped_by : (r : Refusal) → 0 < length rest → entry_at rest 0 ≡ Err r → scan_of s ≡ Err (refused_at (length (spell_all bs)) r.number)
   unfolding scan_of
   stopped_by r h q =
       let f = few bs ok in
       let l = long in
-      let x : whole_of (drop (length (spell_all bs)) s) ≡ head.Fault r.number = rw (← e, drop-append_seam (spell_all bs) rest) (fault_of_lem rest r q) in
+      let x : whole_of (drop (length (spell_all bs)) s) ≡ Err r.number = rw (← e, drop-append_seam (spell_all bs) rest) (fault_of_lem rest r q) in
       along bs rest s 0 none (length s) (length (spell_all bs)) (length bs) (bytes_in bs) (suc (length s - (length bs + 1))) ok (sym e) (omega arith) (omega arith) (omega arith) (omega arith)
       ∙ scan_stop _ s _ _ (omega arith) x
 
 -- ## Any bytes are entries of sound blobs and a rest
 
 module _ (l : List ℕ) (b : Bytes l) (next : (k : ℕ) → 110 ≤ k → Fate (drop k l)) where
-  fate_by : (x : Entry) → entry_at l 0 ≡ x → Fate l
-  fate_by (entry.Refused r) q = record { blobs = []; rest = l; sound = tt; cut = refl; ends = λ _ f. rw q at f }
-  fate_by (entry.Found p) q =
+  fate_by : (x : Result Parts Refusal) → entry_at l 0 ≡ x → Fate l
+  fate_by (Err r) q = record { blobs = []; rest = l; sound = tt; cut = refl; ends = λ _ f. rw q at f }
+  fate_by (Ok p) q =
       let g : Seen l 0 p = seen l 0 p q in
       let n = g.size in
       let w : Whole l n = whole l n g.left in

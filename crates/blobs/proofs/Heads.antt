@@ -1,68 +1,39 @@
--- What the 110 bytes of an entry say: the first check that fails, by the tests as the code makes them, and of a head without fault what each check
--- says, because the checks are a list. All but the last look within the first 110 bytes, so these alone decide. Assumes nothing.
+-- What the 110 bytes of an entry say: of a head without fault what each check says, because the checks are a list. All but the last look within
+-- the first 110 bytes, so these alone decide. Assumes nothing.
+use Rattle.std.specs.Prelude.{Result, Ok, Err}
 use mathlib.Core.Path.{◌≡◌, refl, sym, ap, ◌∙◌}
-use Prim.Native.Nat.{ℕ, suc, ◌+◌, ◌-◌, ◌≤◌, ◌<◌, min}
-use native.Mathlib.Numerals.{add-one}
+use Prim.Native.Nat.{ℕ, ◌+◌, ◌-◌, ◌≤◌, ◌<◌, min}
 use native.Mathlib.Omega.{arith}
 use mathlib.Core.Bool.{Bool, true, false, ◌&&◌}
-use mathlib.Core.List.{List, ◌++◌}
-use lib.ListN.{length, get_or, take, drop, drop_of_length-le, length-append, length-take, length-drop, take-append-drop}
-use lib.Seq.{drop-cons, take_all, take-append-le, drop-append-le}
+use mathlib.Core.List.{List, [], ◌∷◌, ◌++◌}
+use lib.ListN.{length, take, drop, length-append, length-take, length-drop, take-append-drop}
+use lib.Seq.{take_all, take-append-le, drop-append-le}
 use lib.Dec.{eqb, leb}
-use borrow.Author.Tests.{le-leb, lt-leb, ne_eqb, eq-eqb, leb-true, leb-false, eqb-true}
-use Rattle.words.specs.Checks.{◌unless◌then◌}
+use borrow.Author.Tests.{le-leb, lt-leb, eq-eqb, leb-true, leb-false, eqb-true}
 use Rattle.words.specs.Le.{le_at, le_num, zeros_at}
 use Rattle.words.proofs.Zeros.{and_assoc, and_true}
 use Rattle.words.proofs.Checks.{passed_on}
 use Rattle.words.proofs.Parts.{le_front, zeros_front}
-use Rattle.blobs.specs.declared.Head.{Head}
-use Rattle.blobs.specs.declared.Head.TheVariants as head
 use Rattle.blobs.specs.Blobs.{is_digit, are_digits, head_of, fitting, whole_of}
 
--- ## Digits, by the place as a loop has it: one byte more tested, no byte left
+-- ## Digits: no byte, and one byte more tested
 
-pub digits_more : (so_far : Bool) (s : List ℕ) (i : ℕ) → i < length s → (so_far && are_digits (drop i s)) ≡ ((so_far && is_digit (get_or s i 0)) && are_digits (drop (i + 1) s))
+pub digits_none : true ≡ are_digits []
 unfolding are_digits
-digits_more so_far s i h = rw (drop-cons s i 0 h, add-one) (and_assoc so_far (is_digit (get_or s i 0)) (are_digits (drop (suc i) s)))
+digits_none = refl
 
-pub digits_none : (so_far : Bool) (s : List ℕ) (i : ℕ) → length s ≤ i → (so_far && are_digits (drop i s)) ≡ so_far
+pub digits_push : (s : List ℕ) (b : ℕ) → are_digits (s ++ (b ∷ [])) ≡ (are_digits s && is_digit b)
 unfolding are_digits
-digits_none so_far s i h = rw (drop_of_length-le s h) (and_true so_far)
+digits_push [] b = and_true (is_digit b)
+digits_push (x ∷ s) b = rw (digits_push s b) (and_assoc (is_digit x) (are_digits s) (is_digit b))
 
--- ## The first check that fails
+-- ## The checks
 
-module _ (l : List ℕ) where
-  pub short : length l < 110 → head.Fault 24 ≡ head_of l
-  unfolding head_of
-  short h = rw (lt-leb 110 (length l) h)
+pub short : (l : List ℕ) → length l < 110 → Err 24 ≡ head_of l
+unfolding head_of
+short l h = rw (lt-leb 110 (length l) h)
 
-  module _ (h : 110 ≤ length l) {m : ℕ} (em : m ≡ le_at 4 l 0) where
-    pub other_magic : (m ≡ 1112036173 → ⊥) → head.Fault 25 ≡ head_of l
-    unfolding head_of le_num
-    other_magic n = rw (le-leb 110 (length l) h, ne_eqb (le_at 4 l 0) 1112036173 (λ q. n (em ∙ q)))
-
-    module _ (is-magic : m ≡ 1112036173) {v : ℕ} (ev : v ≡ le_at 2 l 4) where
-      pub other_version : (v ≡ 1 → ⊥) → head.Fault 26 ≡ head_of l
-      unfolding head_of le_num
-      other_version n = rw (le-leb 110 (length l) h, eq-eqb (le_at 4 l 0) 1112036173 (sym em ∙ is-magic), ne_eqb (le_at 2 l 4) 1 (λ q. n (ev ∙ q)))
-
-      module _ (is_one : v ≡ 1) where
-        -- the checks that are left then
-        later : head_of l ≡ (head.Fault 27 unless are_digits (take 64 (drop 14 l)) then head.Fault 28 unless zeros_at 32 l 78 then head.Data (le_at 8 l 6))
-        unfolding head_of le_num
-        later = rw (le-leb 110 (length l) h, eq-eqb (le_at 4 l 0) 1112036173 (sym em ∙ is-magic), eq-eqb (le_at 2 l 4) 1 (sym ev ∙ is_one))
-
-        pub not_hex : are_digits (take 64 (drop 14 l)) ≡ false → head.Fault 27 ≡ head_of l
-        not_hex d = sym (later ∙ rw d)
-
-        pub not_zero : are_digits (take 64 (drop 14 l)) ≡ true → zeros_at 32 l 78 ≡ false → head.Fault 28 ≡ head_of l
-        not_zero d z = sym (later ∙ rw (d, z))
-
-        pub good : are_digits (take 64 (drop 14 l)) ≡ true → zeros_at 32 l 78 ≡ true → head.Data (le_at 8 l 6) ≡ head_of l
-        good d z = sym (later ∙ rw (d, z))
-
--- ## No check fails
-
+-- no check fails
 pub record Passed (l : List ℕ) (n : ℕ) : Type 0 where
   pub fits : 110 ≤ length l
   pub magic_there : le_at 4 l 0 ≡ 1112036173
@@ -71,15 +42,10 @@ pub record Passed (l : List ℕ) (n : ℕ) : Type 0 where
   pub zeros : zeros_at 32 l 78 ≡ true
   pub told : le_at 8 l 6 ≡ n
 
--- a head by a number: none where there is a fault
-abbrev data_in : Head → ℕ
-data_in (head.Data n) = suc n
-data_in (head.Fault k) = 0
+no_fault : (k n : ℕ) → Err k ≡ Ok n → ⊥
+no_fault k n e = cc
 
-no_fault : (k n : ℕ) → head.Fault k ≡ head.Data n → ⊥
-no_fault k n e = let z = ap data_in e in absurd (omega arith)
-
-pub passed : (l : List ℕ) (n : ℕ) → head_of l ≡ head.Data n → Passed l n
+pub passed : (l : List ℕ) (n : ℕ) → head_of l ≡ Ok n → Passed l n
 unfolding head_of le_num
 passed l n p =
     let (e1, z1) = passed_on (leb 110 (length l)) _ _ _ (no_fault 24 n) p in
@@ -87,51 +53,48 @@ passed l n p =
     let (e3, z3) = passed_on (eqb (le_at 2 l 4) 1) _ _ _ (no_fault 26 n) z2 in
     let (e4, z4) = passed_on (are_digits (take 64 (drop 14 l))) _ _ _ (no_fault 27 n) z3 in
     let (e5, z5) = passed_on (zeros_at 32 l 78) _ _ _ (no_fault 28 n) z4 in
-    let z = ap data_in z5 in
-    record { fits = leb-true _ _ e1; magic_there = eqb-true _ _ e2; version = eqb-true _ _ e3; digits = e4; zeros = e5; told = omega arith }
+    record { fits = leb-true _ _ e1; magic_there = eqb-true _ _ e2; version = eqb-true _ _ e3; digits = e4; zeros = e5; told = cc }
 
-pub all_passed : (l : List ℕ) (n : ℕ) → Passed l n → head_of l ≡ head.Data n
-all_passed l n p = sym (good l p.fits refl p.magic_there refl p.version p.digits p.zeros) ∙ ap head.Data p.told
+pub all_passed : (l : List ℕ) (n : ℕ) → Passed l n → head_of l ≡ Ok n
+unfolding head_of le_num
+all_passed l n p =
+    rw (le-leb 110 (length l) p.fits, eq-eqb (le_at 4 l 0) 1112036173 p.magic_there, eq-eqb (le_at 2 l 4) 1 p.version, p.digits, p.zeros) (ap Ok p.told)
 
 -- ## The last check
 
 pub record Whole (l : List ℕ) (n : ℕ) : Type 0 where
-  pub said : head_of l ≡ head.Data n
+  pub said : head_of l ≡ Ok n
   pub within : 110 + n ≤ length l
 
 module _ (l : List ℕ) where
-  by_head : {h : Head} → head_of l ≡ h → whole_of l ≡ fitting (length l) h
+  by_head : {h : Result ℕ ℕ} → head_of l ≡ h → whole_of l ≡ fitting (length l) h
   unfolding whole_of
   by_head e = rw e
 
-  pub still_faulty : {k : ℕ} → head_of l ≡ head.Fault k → head.Fault k ≡ whole_of l
+  pub still_faulty : {k : ℕ} → head_of l ≡ Err k → Err k ≡ whole_of l
   still_faulty e = sym (by_head e)
 
-  module _ {n : ℕ} (e : head_of l ≡ head.Data n) where
+  module _ {n : ℕ} (e : head_of l ≡ Ok n) where
     pub head_fits : 110 ≤ length l
     head_fits = (passed l n e).fits
 
-    pub too_long : length l - 110 < n → head.Fault 29 ≡ whole_of l
-    too_long h = let f = head_fits in sym (by_head e ∙ rw (lt-leb (110 + n) (length l) (omega arith)))
-
-    pub fits : n ≤ length l - 110 → head.Data n ≡ whole_of l
+    pub fits : n ≤ length l - 110 → Ok n ≡ whole_of l
     fits h = let f = head_fits in sym (by_head e ∙ rw (le-leb (110 + n) (length l) (omega arith)))
 
-pub is_whole : (l : List ℕ) (n : ℕ) → Whole l n → whole_of l ≡ head.Data n
+pub is_whole : (l : List ℕ) (n : ℕ) → Whole l n → whole_of l ≡ Ok n
 is_whole l n w = let h = w.within in sym (fits l w.said (omega arith))
 
-pub whole : (l : List ℕ) (n : ℕ) → whole_of l ≡ head.Data n → Whole l n
+pub whole : (l : List ℕ) (n : ℕ) → whole_of l ≡ Ok n → Whole l n
 unfolding whole_of
 whole l n e = go (head_of l) refl e
   where
-    go : (h : Head) → head_of l ≡ h → fitting (length l) h ≡ head.Data n → Whole l n
-    go (head.Fault k) q f = absurd (no_fault k n f)
-    go (head.Data m) q f =
+    go : (h : Result ℕ ℕ) → head_of l ≡ h → fitting (length l) h ≡ Ok n → Whole l n
+    go (Err k) q f = absurd (no_fault k n f)
+    go (Ok m) q f =
         let (e1, z1) = passed_on (leb (110 + m) (length l)) _ _ _ (no_fault 29 n) f in
-        let z = ap data_in z1 in
-        let s : m ≡ n = omega arith in
+        let s : m ≡ n = cc in
         let h : 110 + m ≤ length l = leb-true _ _ e1 in
-        record { said = q ∙ ap head.Data s; within = omega arith }
+        record { said = q ∙ ap Ok s; within = omega arith }
 
 -- ## Only the first 110 bytes count
 

@@ -1,4 +1,6 @@
 -- The claims of the reader: a blob is found where its entry stands, and an entry stands where one is found. Assumes nothing.
+use Rattle.std.specs.Prelude.{Result, Ok, Err}
+use Rattle.words.specs.declared.Refusal.{Refusal}
 use mathlib.Core.Path.{◌≡◌, refl, sym, ap, ◌∙◌}
 use Prim.Native.Nat.{ℕ, ◌+◌}
 use native.Mathlib.Omega.{arith}
@@ -7,8 +9,6 @@ use lib.ListN.{length, take, drop, length-append}
 use lib.Seq.{drop-append_seam, drop-drop, get_or-drop}
 use Rattle.words.specs.Le.{Bytes}
 use Rattle.blobs.specs.declared.Parts.{Parts}
-use Rattle.blobs.specs.declared.Entry.{Entry}
-use Rattle.blobs.specs.declared.Entry.TheVariants as entry
 use Rattle.blobs.specs.Blobs.{Blob, Sound, spell_entry, spell_all, parts_at, entry_at, blob_in}
 use Rattle.blobs.specs.Claims.{Spells, IsFound, Reads, Stands, ReadClaim}
 use Rattle.blobs.proofs.Heads.{Whole, whole, head_alone}
@@ -26,7 +26,7 @@ reads_there s at b z next ok d e =
     record { parts = parts_at at (length b.«data»); found = found_there s at b z st; blob = blob_in_lem s at (length b.«data») ∙ st.blob; behind = omega arith }
 
 -- what is found is sound, and its entry stands there
-module _ (s : List ℕ) (at : ℕ) (p : Parts) (bytes : Bytes s) (e : entry_at s at ≡ entry.Found p) where
+module _ (s : List ℕ) (at : ℕ) (p : Parts) (bytes : Bytes s) (e : entry_at s at ≡ Ok p) where
   abbrev left : List ℕ
   left = drop at s
 
@@ -57,9 +57,9 @@ module _ (s : List ℕ) (at : ℕ) (p : Parts) (bytes : Bytes s) (e : entry_at s
 stands_of : (s : List ℕ) (at : ℕ) → Bytes s → IsFound (entry_at s at) → Stands s at
 stands_of s at b f = go (entry_at s at) refl f
   where
-    go : (x : Entry) → entry_at s at ≡ x → IsFound x → Stands s at
-    go (entry.Found p) q f = found_stands s at p b q
-    go (entry.Refused r) q f = absurd f
+    go : (x : Result Parts Refusal) → entry_at s at ≡ x → IsFound x → Stands s at
+    go (Ok p) q f = found_stands s at p b q
+    go (Err r) q f = absurd f
 
 each_read : (s : List ℕ) (before : List Blob) (b : Blob) (after : List Blob) → Spells (before ++ b ∷ after) s
     → Reads s (length (spell_all before)) b (length (spell_all (before ++ b ∷ [])))

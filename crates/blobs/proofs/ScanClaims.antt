@@ -1,12 +1,12 @@
 -- The claims of the scan: it goes from entry to entry, and the first that is refused decides. Assumes nothing.
+use Rattle.std.specs.Prelude.{Result, Ok, Err}
+use Rattle.words.specs.declared.Refusal.{Refusal}
+use Rattle.blobs.specs.declared.Parts.{Parts}
 use mathlib.Core.Path.{◌≡◌, refl, sym, ap, ◌∙◌}
 use Prim.Native.Nat.{ℕ, ◌<◌}
 use native.Mathlib.Omega.{arith}
 use mathlib.Core.List.{List, [], ◌∷◌, ◌++◌, append-nil}
 use lib.ListN.{length}
-use Rattle.blobs.specs.declared.Entry.{Entry}
-use Rattle.blobs.specs.declared.Entry.TheVariants as entry
-use Rattle.blobs.specs.declared.Scanned.TheVariants as scanned
 use Rattle.blobs.specs.Blobs.{Blob, bytes_in, spell_all, entry_at, scan_of}
 use Rattle.blobs.specs.Claims.{Spells, IsCounted, Fate, ScanClaim}
 use Rattle.blobs.proofs.Files.{counted_by, stopped_by, fate_of, only_these}
@@ -14,16 +14,16 @@ use Rattle.blobs.proofs.Files.{counted_by, stopped_by, fate_of, only_these}
 counted_list : (s : List ℕ) → Fate s → IsCounted (scan_of s) → (bs : List Blob) × Spells bs s
 counted_list s f h = go f.rest refl (entry_at f.rest 0) refl
   where
-    go : (r : List ℕ) → f.rest ≡ r → (x : Entry) → entry_at f.rest 0 ≡ x → (bs : List Blob) × Spells bs s
+    go : (r : List ℕ) → f.rest ≡ r → (x : Result Parts Refusal) → entry_at f.rest 0 ≡ x → (bs : List Blob) × Spells bs s
     go [] q x w = (f.blobs, record { sound = f.sound; spelled = sym (append-nil (spell_all f.blobs)) ∙ ap (λ (r : List ℕ). spell_all f.blobs ++ r) (sym q) ∙ f.cut })
-    go (y ∷ r) q (entry.Found p) w =
+    go (y ∷ r) q (Ok p) w =
         let u : 0 < length f.rest = rw q (omega arith) in
         absurd (f.ends u (rw w tt))
-    go (y ∷ r) q (entry.Refused e) w =
+    go (y ∷ r) q (Err e) w =
         let u : 0 < length f.rest = rw q (omega arith) in
         absurd (rw (stopped_by f.blobs f.rest s f.sound f.cut e u w) at h)
 
-list_counted : (s : List ℕ) (bs : List Blob) → Spells bs s → scan_of s ≡ scanned.Counted (record { entries = length bs; bytes = bytes_in bs })
+list_counted : (s : List ℕ) (bs : List Blob) → Spells bs s → scan_of s ≡ Ok (record { entries = length bs; bytes = bytes_in bs })
 list_counted s bs w = counted_by bs [] s w.sound (append-nil (spell_all bs) ∙ w.spelled) refl
 
 pub scan_claim : ScanClaim

@@ -1,4 +1,5 @@
 -- A blob and the bytes of its entry determine each other: the parts lie side by side, and each is what its check says. Assumes nothing.
+use Rattle.std.specs.Prelude.{Ok}
 use mathlib.Core.Path.{◌≡◌, refl, sym, ap, ◌∙◌}
 use Prim.Native.Nat.{ℕ, ◌+◌, ◌≤◌}
 use native.Mathlib.Omega.{arith}
@@ -8,7 +9,6 @@ use lib.Seq.{take_at, drop_at, drop-drop, get_or-drop}
 use Rattle.words.specs.Le.{Bytes, le_num, spell}
 use Rattle.words.proofs.Numbers.{length_spell, num_spell, at_num, at_lt, spell_at, take_bytes, part_in}
 use Rattle.words.proofs.Zeros.{zeros_part, zeros_from}
-use Rattle.blobs.specs.declared.Head.TheVariants as head
 use Rattle.blobs.specs.Blobs.{Blob, blob, Sound, magic, are_digits, spell_entry, head_of}
 use Rattle.blobs.proofs.Heads.{Passed, passed}
 use Rattle.blobs.proofs.Written.{magic_spelled, length_entry}
@@ -72,7 +72,7 @@ stood l b z ok d =
 
 -- ## From what is read to a blob
 
-module _ (l : List ℕ) (n : ℕ) (b : Bytes l) (e : head_of l ≡ head.Data n) (within : 110 + n ≤ length l) where
+module _ (l : List ℕ) (n : ℕ) (b : Bytes l) (e : head_of l ≡ Ok n) (within : 110 + n ≤ length l) where
   ok : Passed l n
   ok = passed l n e
 

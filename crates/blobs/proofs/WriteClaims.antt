@@ -1,5 +1,6 @@
 -- The claims of the writer: it makes the entry of its blob at the start of the buffer, so what it wrote is read there, and what was read it makes again.
 -- Assumes nothing.
+use Rattle.std.specs.Prelude.{Ok}
 use mathlib.Core.Path.{◌≡◌, refl, sym, ap, ◌∙◌}
 use Prim.Native.Nat.{ℕ, ◌+◌, ◌-◌, ◌≤◌}
 use native.Mathlib.Omega.{arith}
@@ -12,7 +13,6 @@ use borrow.Author.Tests.{eqb-true, eqb-false}
 use Rattle.words.specs.Le.{Bytes}
 use Rattle.words.proofs.Stores.{puts_eq, length_puts}
 use Rattle.blobs.specs.declared.Parts.{Parts}
-use Rattle.blobs.specs.declared.Put.TheVariants as put
 use Rattle.blobs.specs.Blobs.{Blob, Sound, AllSound, spell_entry, entry_size, spell_all, put_fault, put_of, buffer_of}
 use Rattle.blobs.specs.Claims.{Spells, Reads, Allowed, put_all, WriteClaim}
 use Rattle.blobs.proofs.Entries.{Seen, seen}
@@ -24,7 +24,7 @@ use Rattle.blobs.proofs.ReadClaims.{reads_there, found_blob, found_sound, found_
 module _ (b : Blob) (buf : List ℕ) where
   module _ (a : Allowed b (length buf)) where
     free : put_fault b (length buf) ≡ 0
-    free = sym (may_write b (length buf) a.size a.hex a.fits)
+    free = may_write b (length buf) a
 
     buffer_is : buffer_of b buf ≡ spell_entry b ++ drop (entry_size b) buf
     buffer_is =
@@ -54,7 +54,7 @@ sound_allowed : (b : Blob) (room : ℕ) → Sound b → entry_size b ≤ room �
 sound_allowed b room ok h = record { size = ok.size; hex = ok.hex; fits = h }
 
 again : (s : List ℕ) (at : ℕ) (b : Blob) (next : ℕ) (buf : List ℕ) → Bytes s → Reads s at b next → entry_size b ≤ length buf
-    → (put_of b (length buf) ≡ put.Wrote (entry_size b)) × (at + entry_size b ≡ next)
+    → (put_of b (length buf) ≡ Ok (entry_size b)) × (at + entry_size b ≡ next)
     × (take (entry_size b) (buffer_of b buf) ≡ take (entry_size b) (drop at s))
 again s at b next buf bytes w h =
     let p = w.parts in
@@ -81,9 +81,9 @@ whole_from (b ∷ bs) buf ok h =
     rw (begins_so b buf a, behind_so b buf a, r, drop-drop, l) (sym (append_assoc (spell_entry b) (spell_all bs) (drop (m + length (spell_all bs)) buf)))
 
 -- an answer does not look at the buffer's bytes
-wrote_by : (b : Blob) (room : ℕ) → Allowed b room → put_of b room ≡ put.Wrote (entry_size b)
+wrote_by : (b : Blob) (room : ℕ) → Allowed b room → put_of b room ≡ Ok (entry_size b)
 unfolding put_of
-wrote_by b room a = let f : put_fault b room ≡ 0 = sym (may_write b room a.size a.hex a.fits) in rw f
+wrote_by b room a = rw (may_write b room a)
 
 file_of : (bs : List Blob) (buf : List ℕ) → AllSound bs → length buf ≡ length (spell_all bs) → Spells bs (put_all bs buf)
 file_of bs buf ok e =

@@ -1,21 +1,13 @@
 -- THE OLD BLOB FILES: what an entry is, what is found at a position, what is written, and what a scan of the whole counts; for any bytes.
 -- An entry: 0 "MSHB", 4 version u16 = 1, 6 data length u64, 14 the hash's 64 digits, 78 thirty-two zeros, 110 the data; then the next entry.
-use Rattle.std.specs.Prelude.{◌≡◌, ℕ, zero, suc, ◌+◌, ◌^◌, ◌<◌, List, [], ◌∷◌, ◌++◌, Bool, true, ◌&&◌, ◌||◌, length, take, drop, replicate, eqb, leb}
+use Rattle.std.specs.Prelude.{◌≡◌, ℕ, zero, suc, ◌+◌, ◌^◌, ◌<◌, List, [], ◌∷◌, ◌++◌, Bool, true, ◌&&◌, ◌||◌, length, take, drop, replicate, eqb, leb, Result, Ok, Err}
+use Rattle.words.specs.declared.Refusal.{Refusal}
 use Rattle.words.specs.Checks.{pick, ◌unless◌then◌, fine}
 use Rattle.words.specs.Le.{Bytes, le_at, le_num, spell, puts, zeros_at}
 use Rattle.words.specs.Refusals.{refused_at}
-use Rattle.blobs.specs.declared.Head.{Head}
-use Rattle.blobs.specs.declared.Head.TheVariants as head
 use Rattle.blobs.specs.declared.Parts.{Parts}
-use Rattle.blobs.specs.declared.Entry.{Entry}
-use Rattle.blobs.specs.declared.Entry.TheVariants as entry
-use Rattle.blobs.specs.declared.Put.{Put}
-use Rattle.blobs.specs.declared.Put.TheVariants as put
 use Rattle.blobs.specs.declared.Tally.{Tally}
-use Rattle.blobs.specs.declared.Scanned.{Scanned}
-use Rattle.blobs.specs.declared.Scanned.TheVariants as scanned
 use Rattle.blobs.specs.declared.EntryNumbers.{EntryNumbers}
-use Rattle.blobs.specs.declared.PutNumbers.{PutNumbers}
 use Rattle.blobs.specs.declared.ScannedNumbers.{ScannedNumbers}
 
 -- ## Digits: 0 to 9, A to F, a to f
@@ -72,25 +64,25 @@ bytes_in (b ∷ bs) = length b.«data» + bytes_in bs
 -- ## The reader
 
 -- what the 110 bytes say at the start of what is left of the buffer: the first check that fails, or how many bytes of data follow
-unfoldable pub head_of : List ℕ → Head
+unfoldable pub head_of : List ℕ → Result ℕ ℕ
 head_of left =
     -- no fewer than 110 bytes are left
-    head.Fault 24 unless leb 110 (length left) then
+    Err 24 unless leb 110 (length left) then
     -- the first four are "MSHB"
-    head.Fault 25 unless eqb (le_at 4 left 0) (le_num magic) then
+    Err 25 unless eqb (le_at 4 left 0) (le_num magic) then
     -- the version is 1
-    head.Fault 26 unless eqb (le_at 2 left 4) 1 then
+    Err 26 unless eqb (le_at 2 left 4) 1 then
     -- the characters of the hash are hex digits
-    head.Fault 27 unless are_digits (take 64 (drop 14 left)) then
+    Err 27 unless are_digits (take 64 (drop 14 left)) then
     -- the reserved bytes are 0
-    head.Fault 28 unless zeros_at 32 left 78 then head.Data (le_at 8 left 6)
+    Err 28 unless zeros_at 32 left 78 then Ok (le_at 8 left 6)
 
 -- the last check: the data end within what is left; numbers are exact here, so nothing wraps
-abbrev pub fitting : ℕ → Head → Head
-fitting size (head.Fault number) = head.Fault number
-fitting size (head.Data n) = head.Fault 29 unless leb (110 + n) size then head.Data n
+abbrev pub fitting : ℕ → Result ℕ ℕ → Result ℕ ℕ
+fitting size (Err number) = Err number
+fitting size (Ok n) = Err 29 unless leb (110 + n) size then Ok n
 
-unfoldable pub whole_of : List ℕ → Head
+unfoldable pub whole_of : List ℕ → Result ℕ ℕ
 whole_of left = fitting (length left) (head_of left)
 
 -- where the parts of an entry are that has so many bytes of data
@@ -98,12 +90,12 @@ abbrev pub parts_at : ℕ → ℕ → Parts
 parts_at at n = record { digits = record { 0 = at + 14 }; «data» = record { 0 = at + 110 }; length = n; next = record { 0 = at + 110 + n } }
 
 -- the refusal is at the entry's position
-abbrev pub entry_by : ℕ → Head → Entry
-entry_by at (head.Fault number) = entry.Refused (refused_at at number)
-entry_by at (head.Data n) = entry.Found (parts_at at n)
+abbrev pub entry_by : ℕ → Result ℕ ℕ → Result Parts Refusal
+entry_by at (Err number) = Err (refused_at at number)
+entry_by at (Ok n) = Ok (parts_at at n)
 
 -- the entry at a position; at the end and past it nothing is left
-unfoldable pub entry_at : List ℕ → ℕ → Entry
+unfoldable pub entry_at : List ℕ → ℕ → Result Parts Refusal
 entry_at s at = entry_by at (whole_of (drop at s))
 
 -- the blob whose parts are in these places of the buffer
@@ -122,8 +114,8 @@ put_fault b room =
     15 unless leb (entry_size b) room then fine
 
 -- both are refused at 0
-unfoldable pub put_of : Blob → ℕ → Put
-put_of b room = pick (eqb (put_fault b room) fine) (put.Wrote (entry_size b)) (put.Refused (refused_at 0 (put_fault b room)))
+unfoldable pub put_of : Blob → ℕ → Result ℕ Refusal
+put_of b room = pick (eqb (put_fault b room) fine) (Ok (entry_size b)) (Err (refused_at 0 (put_fault b room)))
 
 -- what the buffer then holds
 unfoldable pub buffer_of : Blob → List ℕ → List ℕ
@@ -136,35 +128,30 @@ abbrev pub with_entry : Tally → ℕ → Tally
 with_entry t n = record { entries = t.entries + 1; bytes = t.bytes + n }
 
 -- the first refusal is the scan's
-abbrev pub go_on : ℕ → Head → (ℕ → Scanned) → Scanned
-go_on at (head.Fault number) more = scanned.Refused (refused_at at number)
-go_on at (head.Data n) more = more n
+abbrev pub go_on : ℕ → Result ℕ ℕ → (ℕ → Result Tally Refusal) → Result Tally Refusal
+go_on at (Err number) more = Err (refused_at at number)
+go_on at (Ok n) more = more n
 
 -- from a position on, with what was counted so far, in so many steps at most; the end is no fault
-unfoldable pub scan_from : ℕ → List ℕ → ℕ → Tally → Scanned
-scan_from zero s at t = scanned.Counted t
-scan_from (suc steps) s at t = pick (leb (length s) at) (scanned.Counted t) (go_on at (whole_of (drop at s)) (λ n. scan_from steps s (at + 110 + n) (with_entry t n)))
+unfoldable pub scan_from : ℕ → List ℕ → ℕ → Tally → Result Tally Refusal
+scan_from zero s at t = Ok t
+scan_from (suc steps) s at t = pick (leb (length s) at) (Ok t) (go_on at (whole_of (drop at s)) (λ n. scan_from steps s (at + 110 + n) (with_entry t n)))
 
 abbrev pub none : Tally
 none = record { entries = 0; bytes = 0 }
 
 -- an entry has at least one byte, so as many steps as there are bytes are enough
-unfoldable pub scan_of : List ℕ → Scanned
+unfoldable pub scan_of : List ℕ → Result Tally Refusal
 scan_of s = scan_from (length s) s 0 none
 
 -- ## The paper's numbers, for each case of an answer
 
 -- the parts of an entry, or zeros and the refusal
-abbrev pub entry_numbers : Entry → EntryNumbers
-entry_numbers (entry.Found p) = record { digits = p.digits.0; «data» = p.«data».0; length = p.length; next = p.next.0; at = 0; number = 0 }
-entry_numbers (entry.Refused refusal) = record { digits = 0; «data» = 0; length = 0; next = 0; at = refusal.at.0; number = refusal.number }
-
--- so many bytes, or the refusal
-abbrev pub put_numbers : Put → PutNumbers
-put_numbers (put.Wrote size) = record { wrote = size; at = 0; number = 0 }
-put_numbers (put.Refused refusal) = record { wrote = 0; at = refusal.at.0; number = refusal.number }
+abbrev pub entry_numbers : Result Parts Refusal → EntryNumbers
+entry_numbers (Ok p) = record { digits = p.digits.0; «data» = p.«data».0; length = p.length; next = p.next.0; at = 0; number = 0 }
+entry_numbers (Err refusal) = record { digits = 0; «data» = 0; length = 0; next = 0; at = refusal.at.0; number = refusal.number }
 
 -- the counts, or zeros and the refusal
-abbrev pub scanned_numbers : Scanned → ScannedNumbers
-scanned_numbers (scanned.Counted t) = record { entries = t.entries; bytes = t.bytes; at = 0; number = 0 }
-scanned_numbers (scanned.Refused refusal) = record { entries = 0; bytes = 0; at = refusal.at.0; number = refusal.number }
+abbrev pub scanned_numbers : Result Tally Refusal → ScannedNumbers
+scanned_numbers (Ok t) = record { entries = t.entries; bytes = t.bytes; at = 0; number = 0 }
+scanned_numbers (Err refusal) = record { entries = 0; bytes = 0; at = refusal.at.0; number = refusal.number }

@@ -1,14 +1,10 @@
 -- THE CLAIMS OF THE BLOB FILES, proved in proofs/ReadClaims, ScanClaims and WriteClaims.
-use Rattle.std.specs.Prelude.{◌≡◌, ◌↔◌, ℕ, ◌+◌, ◌≤◌, ◌<◌, List, [], ◌∷◌, ◌++◌, true, length, take, drop}
+use Rattle.std.specs.Prelude.{◌≡◌, ◌↔◌, ℕ, ◌+◌, ◌≤◌, ◌<◌, List, [], ◌∷◌, ◌++◌, true, length, take, drop, Result, Ok, Err}
 use Rattle.words.specs.Le.{Bytes}
 use Rattle.words.specs.Refusals.{refused_at}
 use Rattle.words.specs.declared.Refusal.{Refusal}
 use Rattle.blobs.specs.declared.Parts.{Parts}
-use Rattle.blobs.specs.declared.Entry.{Entry}
-use Rattle.blobs.specs.declared.Entry.TheVariants as entry
-use Rattle.blobs.specs.declared.Put.TheVariants as put
-use Rattle.blobs.specs.declared.Scanned.{Scanned}
-use Rattle.blobs.specs.declared.Scanned.TheVariants as scanned
+use Rattle.blobs.specs.declared.Tally.{Tally}
 use Rattle.blobs.specs.Blobs.{Blob, Sound, AllSound, are_digits, bytes_in, spell_entry, entry_size, spell_all, head_of, entry_at, blob_in, put_of, buffer_of, none, scan_of}
 
 -- ## Words for the claims
@@ -19,19 +15,19 @@ pub record Spells (bs : List Blob) (s : List ℕ) : Type 0 where
   pub spelled : spell_all bs ≡ s
 
 -- an entry is found
-abbrev pub IsFound : Entry → Type 0
-IsFound (entry.Found p) = Unit {0}
-IsFound (entry.Refused r) = ⊥
+abbrev pub IsFound : Result Parts Refusal → Type 0
+IsFound (Ok p) = Unit {0}
+IsFound (Err r) = ⊥
 
 -- a scan has counted
-abbrev pub IsCounted : Scanned → Type 0
-IsCounted (scanned.Counted t) = Unit {0}
-IsCounted (scanned.Refused r) = ⊥
+abbrev pub IsCounted : Result Tally Refusal → Type 0
+IsCounted (Ok t) = Unit {0}
+IsCounted (Err r) = ⊥
 
 -- the reader finds this blob at a position, and this next position
 pub record Reads (s : List ℕ) (at : ℕ) (b : Blob) (next : ℕ) : Type 0 where
   pub parts : Parts
-  pub found : entry_at s at ≡ entry.Found parts
+  pub found : entry_at s at ≡ Ok parts
   pub blob : blob_in s parts ≡ b
   pub behind : parts.next.0 ≡ next
 
@@ -72,9 +68,9 @@ pub record ReadClaim : Type 0 where
   pub each : (s : List ℕ) (before : List Blob) (b : Blob) (after : List Blob) → Spells (before ++ b ∷ after) s
       → Reads s (length (spell_all before)) b (length (spell_all (before ++ b ∷ [])))
   -- at or past the end it is 24
-  pub past : (s : List ℕ) (at : ℕ) → length s ≤ at → entry_at s at ≡ entry.Refused (refused_at at 24)
+  pub past : (s : List ℕ) (at : ℕ) → length s ≤ at → entry_at s at ≡ Err (refused_at at 24)
   -- a refusal is at the position asked for, with the number of the bytes from there on
-  pub alone : (before rest : List ℕ) (r : Refusal) → entry_at rest 0 ≡ entry.Refused r → entry_at (before ++ rest) (length before) ≡ entry.Refused (refused_at (length before) r.number)
+  pub alone : (before rest : List ℕ) (r : Refusal) → entry_at rest 0 ≡ Err r → entry_at (before ++ rest) (length before) ≡ Err (refused_at (length before) r.number)
   -- the first 110 bytes alone decide what a head says
   pub head : (left : List ℕ) → head_of (take 110 left) ≡ head_of left
 
@@ -84,19 +80,19 @@ pub record ScanClaim : Type 0 where
   -- a buffer is accepted exactly if it is the entries of a list of sound blobs; that list is the only one, and the numbers are its own
   pub accepted : (s : List ℕ) → Bytes s → IsCounted (scan_of s) ↔ ((bs : List Blob) × Spells bs s)
   pub only : (s : List ℕ) (bs cs : List Blob) → Spells bs s → Spells cs s → bs ≡ cs
-  pub totals : (s : List ℕ) (bs : List Blob) → Spells bs s → scan_of s ≡ scanned.Counted (record { entries = length bs; bytes = bytes_in bs })
+  pub totals : (s : List ℕ) (bs : List Blob) → Spells bs s → scan_of s ≡ Ok (record { entries = length bs; bytes = bytes_in bs })
   -- any bytes have a fate, and the first bad entry decides number and position
   pub fate : (s : List ℕ) → Bytes s → Fate s
-  pub first : (bs : List Blob) (rest : List ℕ) (r : Refusal) → AllSound bs → 0 < length rest → entry_at rest 0 ≡ entry.Refused r
-      → scan_of (spell_all bs ++ rest) ≡ scanned.Refused (refused_at (length (spell_all bs)) r.number)
+  pub first : (bs : List Blob) (rest : List ℕ) (r : Refusal) → AllSound bs → 0 < length rest → entry_at rest 0 ≡ Err r
+      → scan_of (spell_all bs ++ rest) ≡ Err (refused_at (length (spell_all bs)) r.number)
   -- an empty buffer is good with no entries
-  pub empty : scan_of [] ≡ scanned.Counted none
+  pub empty : scan_of [] ≡ Ok none
 
 -- ## The writer
 
 pub record WriteClaim : Type 0 where
   -- written exactly if there are 64 digits and room
-  pub exactly : (b : Blob) (room : ℕ) → (put_of b room ≡ put.Wrote (entry_size b)) ↔ Allowed b room
+  pub exactly : (b : Blob) (room : ℕ) → (put_of b room ≡ Ok (entry_size b)) ↔ Allowed b room
   -- then the entry stands at the start of the buffer
   pub begins : (b : Blob) (buf : List ℕ) → Allowed b (length buf) → take (entry_size b) (buffer_of b buf) ≡ spell_entry b
   -- no byte behind it changes, and the buffer keeps its length; refused, no byte changes
@@ -107,7 +103,7 @@ pub record WriteClaim : Type 0 where
   pub write_read : (b : Blob) (buf : List ℕ) → Sound b → entry_size b ≤ length buf → Reads (buffer_of b buf) 0 b (entry_size b)
   -- what was found, written into any buffer with room, is the same bytes again, up to the next position
   pub read_write : (s : List ℕ) (at : ℕ) (b : Blob) (next : ℕ) (buf : List ℕ) → Bytes s → Reads s at b next → entry_size b ≤ length buf
-      → (put_of b (length buf) ≡ put.Wrote (entry_size b)) × (at + entry_size b ≡ next) × (take (entry_size b) (buffer_of b buf) ≡ take (entry_size b) (drop at s))
+      → (put_of b (length buf) ≡ Ok (entry_size b)) × (at + entry_size b ≡ next) × (take (entry_size b) (buffer_of b buf) ≡ take (entry_size b) (drop at s))
   -- all blobs of a file, written one behind the other, are its bytes, and nothing behind them changes
   pub whole : (s : List ℕ) (bs : List Blob) (buf : List ℕ) → Spells bs s → length s ≤ length buf → put_all bs buf ≡ s ++ drop (length s) buf
   -- any sound blobs, written so into a buffer just long enough, are a file of these

@@ -1,15 +1,16 @@
 // The paper's numbers for what is answered about blob files.
+ghost use Rattle.blobs.specs.Blobs.{entry_numbers, scanned_numbers};
 ghost use Rattle.std.specs.Prelude.{◌≡◌};
-ghost use Rattle.blobs.specs.Blobs.{entry_numbers, put_numbers, scanned_numbers};
 
-use crate::{Entry, EntryNumbers, Put, PutNumbers, Scanned, ScannedNumbers};
+use crate::{EntryNumbers, Parts, ScannedNumbers, Tally};
+use words::Refusal;
 
-impl Entry {
-    pub fn numbers(self) -> EntryNumbers
-        ensures { result ≡ entry_numbers self }
-    {
-        match self {
-            Entry::Found(parts) => EntryNumbers {
+impl From<Result<Parts, Refusal>> for EntryNumbers {
+    ghost from_gives = { λ found numbers. numbers ≡ entry_numbers found };
+
+    fn from(found: Result<Parts, Refusal>) -> EntryNumbers {
+        match found {
+            Ok(parts) => EntryNumbers {
                 digits: parts.digits.0,
                 data: parts.data.0,
                 length: parts.length,
@@ -17,7 +18,7 @@ impl Entry {
                 at: 0,
                 number: 0,
             },
-            Entry::Refused(refusal) => EntryNumbers {
+            Err(refusal) => EntryNumbers {
                 digits: 0,
                 data: 0,
                 length: 0,
@@ -29,37 +30,18 @@ impl Entry {
     }
 }
 
-impl Put {
-    pub fn numbers(self) -> PutNumbers
-        ensures { result ≡ put_numbers self }
-    {
-        match self {
-            Put::Wrote(size) => PutNumbers {
-                wrote: size as u64,
-                at: 0,
-                number: 0,
-            },
-            Put::Refused(refusal) => PutNumbers {
-                wrote: 0,
-                at: refusal.at.0,
-                number: refusal.number,
-            },
-        }
-    }
-}
+impl From<Result<Tally, Refusal>> for ScannedNumbers {
+    ghost from_gives = { λ scanned numbers. numbers ≡ scanned_numbers scanned };
 
-impl Scanned {
-    pub fn numbers(self) -> ScannedNumbers
-        ensures { result ≡ scanned_numbers self }
-    {
-        match self {
-            Scanned::Counted(tally) => ScannedNumbers {
+    fn from(scanned: Result<Tally, Refusal>) -> ScannedNumbers {
+        match scanned {
+            Ok(tally) => ScannedNumbers {
                 entries: tally.entries,
                 bytes: tally.bytes,
                 at: 0,
                 number: 0,
             },
-            Scanned::Refused(refusal) => ScannedNumbers {
+            Err(refusal) => ScannedNumbers {
                 entries: 0,
                 bytes: 0,
                 at: refusal.at.0,

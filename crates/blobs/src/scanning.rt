@@ -3,30 +3,22 @@ ghost use Rattle.std.specs.Prelude.{◌≡◌};
 ghost use Rattle.blobs.specs.Blobs.{scan_of};
 
 use crate::reading::whole_of;
-use crate::{Head, Scanned, Tally};
+use crate::{Tally, head};
 use words::{Position, Refusal};
 
-pub fn scan(buf: &[u8]) -> Scanned
+pub fn scan(buf: &[u8]) -> Result<Tally, Refusal>
     ensures { result ≡ scan_of buf.now }
 {
-    let mut at = 0;
-    let mut entries = 0;
-    let mut bytes = 0;
-    while at < buf.len() {
-        let whole = whole_of(&buf[at..]);
-        match whole {
-            Head::Fault(number) => {
-                return Scanned::Refused(Refusal {
-                    at: Position(at as u64),
-                    number,
-                });
-            }
-            Head::Data(length) => {
-                at += Head::SIZE + length as usize;
-                entries += 1;
-                bytes += length;
-            }
-        }
+    let mut tally = Tally::default();
+    let mut rest = buf;
+    while !rest.is_empty() {
+        let length = whole_of(rest).map_err(|number| Refusal {
+            at: Position((buf.len() - rest.len()) as u64),
+            number,
+        })?;
+        tally.entries += 1;
+        tally.bytes += length;
+        rest = &rest[head::SIZE + length as usize..];
     }
-    Scanned::Counted(Tally { entries, bytes })
+    Ok(tally)
 }

@@ -4,41 +4,32 @@
 
 ghost use Rattle.std.specs.Prelude.{◌≡◌, ◌-◌, ◌≤◌, ◌<◌, length};
 ghost use Rattle.std.proofs.Math.Seq.{paste};
+ghost use Rattle.words.specs.Checks.{if_fine};
 ghost use Rattle.words.specs.Record.{words_at};
 ghost use Rattle.rules.specs.Rules.{size_of, words_in, fault_in};
 
 use rules::Place;
-use words::{Footer, Tag, Words};
-
-// What the bytes of a whole record say: its numbers, and the number of the refusal, 0 if it is good.
-#[derive(Clone, Copy)]
-pub struct Heard {
-    pub words: Words,
-    pub number: u32,
-}
+use words::{Footer, Stored, Tag, Words};
 
 // How many bytes of a record are missing.
 pub fn missing(size: usize, have: usize) -> usize
     ensures { result ≡ size - have }
 {
-    if have < size { size - have } else { 0 }
+    size.saturating_sub(have)
 }
 
 // The carry with n bytes of the piece behind what it has.
-pub fn filled(carry: [u8; 200], have: usize, piece: &[u8], n: usize) -> [u8; 200]
+pub fn filled(mut carry: [u8; 200], have: usize, piece: &[u8], n: usize) -> [u8; 200]
     requires { (n ≤ 200 - have) × (n ≤ length piece.now) }
     ensures { result ≡ paste carry have piece.now n }
 {
-    let mut c = carry;
-    let mut i = 0;
-    while i < n {
-        c[have + i] = piece[i];
-        i += 1;
+    if 0 < n {
+        carry[have..have + n].copy_from_slice(&piece[..n]);
     }
-    c
+    carry
 }
 
-// What the bytes in the carry and the first of the piece say of the record due.
+// What the bytes in the carry and the first of the piece say of the record due: its numbers if it is good, else the number of its refusal.
 pub fn hear(
     carry: &[u8; 200],
     have: usize,
@@ -46,25 +37,18 @@ pub fn hear(
     place: Place,
     piece: &[u8],
     lacks: usize,
-) -> Heard
+) -> Result<Words, u32>
     requires { (lacks ≡ size_of place - have) × (lacks ≤ length piece.now) × (0 < size_of place) }
-    ensures { (result.words ≡ words_in place (paste carry.now have piece.now lacks)) × (result.number ≡ fault_in tag place (paste carry.now have piece.now lacks)) }
+    ensures { result ≡ if_fine (fault_in tag place (paste carry.now have piece.now lacks)) (words_in place (paste carry.now have piece.now lacks)) }
 {
-    let due = place.due;
-    if due.footer_due() {
-        let c = filled(*carry, have, piece, lacks);
-        let f = Footer::read(&c, 0);
-        let w = f.words;
-        return Heard {
-            words: w,
-            number: place.footer_fault(f),
-        };
+    if place.due.footer_due() {
+        let footer = Footer::read(&filled(*carry, have, piece, lacks), 0);
+        place.check_footer(footer)?;
+        return Ok(footer.words);
     }
-    let w = words_of(carry, have, piece, lacks);
-    Heard {
-        words: w,
-        number: place.fault(tag, w),
-    }
+    let words = words_of(carry, have, piece, lacks);
+    place.check(tag, words)?;
+    Ok(words)
 }
 
 // The numbers of a record of 48 bytes, straight from the piece where nothing is carried.
@@ -75,7 +59,6 @@ fn words_of(carry: &[u8; 200], have: usize, piece: &[u8], lacks: usize) -> Words
     if have == 0 {
         Words::read(piece, 0)
     } else {
-        let c = filled(*carry, have, piece, lacks);
-        Words::read(&c, 0)
+        Words::read(&filled(*carry, have, piece, lacks), 0)
     }
 }

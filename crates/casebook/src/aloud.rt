@@ -1,12 +1,43 @@
 // A shard read aloud: in pieces, with a line for each record that the reader hands out.
-use reader::{Reader, Said};
+use reader::Reader;
 use rules::{Kind, Record};
-use std::io;
 use std::io::Write;
-use text::{number, say};
-use trial::cases::wide;
-use trial::pieces::end_of;
-use trial::told::named;
+use std::{fmt, io};
+use trial::pieces::{Pieces, left_of};
+
+// A hash as it is told: four numbers.
+#[derive(Drop)]
+pub struct Hash(pub [u64; 4]);
+
+impl fmt::Display for Hash {
+    fn fmt<W: fmt::Write>(&self, f: &mut fmt::Formatter<W>) -> fmt::Result {
+        let Hash([a, b, c, d]) = self;
+        write!(f, "{a} {b} {c} {d}")
+    }
+}
+
+// A record as it is told: kind, position, offset, hash and the four numbers.
+#[derive(Drop)]
+struct Line(Record);
+
+impl fmt::Display for Line {
+    fn fmt<W: fmt::Write>(&self, f: &mut fmt::Formatter<W>) -> fmt::Result {
+        let Line(record) = self;
+        let words = record.words;
+        write!(
+            f,
+            "{} {} {} {} {} {} {} {}",
+            u32::from(record.kind),
+            record.at.0,
+            record.offset.0,
+            Hash(words.hash),
+            words.a,
+            words.b,
+            words.c,
+            words.d,
+        )
+    }
+}
 
 // A reader, and the hashes of the last chunk and the last file head that it handed out, 0 before the first.
 #[derive(Clone, Copy)]
@@ -14,59 +45,6 @@ pub struct Heard {
     pub reader: Reader,
     pub chunk: [u64; 4],
     pub file: [u64; 4],
-}
-
-#[derive(Clone, Copy)]
-struct Call {
-    heard: Heard,
-    taken: usize,
-}
-
-pub fn hash_told<W: Write>(out: &mut W, h: [u64; 4]) -> io::Result<()> {
-    named(out, b" ", h[0])?;
-    named(out, b" ", h[1])?;
-    named(out, b" ", h[2])?;
-    named(out, b" ", h[3])
-}
-
-// A line: kind, position, offset, hash and the four numbers.
-fn record_told<W: Write>(out: &mut W, r: Record) -> io::Result<()> {
-    let at = r.at;
-    let offset = r.offset;
-    let w = r.words;
-    let h = w.hash;
-    let kind = r.kind;
-    number(out, kind.row() as u64)?;
-    named(out, b" ", at.0)?;
-    named(out, b" ", offset.0)?;
-    hash_told(out, h)?;
-    named(out, b" ", w.a as u64)?;
-    named(out, b" ", w.b as u64)?;
-    named(out, b" ", w.c as u64)?;
-    named(out, b" ", w.d as u64)?;
-    say(out, b"\n")
-}
-
-// The hash of a record of this kind, or else what stood there.
-fn hash_if(r: Record, k: Kind, otherwise: [u64; 4]) -> [u64; 4] {
-    let kind = r.kind;
-    let w = r.words;
-    let h = w.hash;
-    if kind.is(k) { h } else { otherwise }
-}
-
-// The size at a turn; where there are no sizes, that of the whole.
-fn size_at(sizes: &[u8], turn: usize, whole: usize) -> usize {
-    if turn < sizes.len() {
-        wide(sizes[turn])
-    } else {
-        whole
-    }
-}
-
-// The turn after this one, of so many.
-fn next_turn(turn: usize, turns: usize) -> usize {
-    if turn < turns { (turn + 1) % turns } else { 0 }
 }
 
 impl Heard {
@@ -78,68 +56,37 @@ impl Heard {
         }
     }
 
-    // After a call that left this reader and handed out a record.
-    fn with<W: Write>(self, out: &mut W, reader: Reader, found: Record) -> io::Result<Heard> {
-        let chunk = self.chunk;
-        let file = self.file;
-        record_told(out, found)?;
-        Ok(Heard {
-            reader: reader,
-            chunk: hash_if(found, Kind::Chunk, chunk),
-            file: hash_if(found, Kind::FileHead, file),
-        })
-    }
-
-    // After a call that left this reader and handed out nothing.
-    fn without(self, reader: Reader) -> Heard {
-        let chunk = self.chunk;
-        let file = self.file;
-        Heard {
-            reader: reader,
-            chunk: chunk,
-            file: file,
+    // One call of the reader; how many bytes it took.
+    fn call<W: Write>(&mut self, out: &mut W, bytes: &[u8]) -> io::Result<usize> {
+        let step = self.reader.step(bytes);
+        self.reader = step.reader;
+        if let Ok(Some(record)) = step.answer.found {
+            writeln!(out, "{}", Line(record))?;
+            self.note(record);
         }
+        Ok(step.answer.taken)
     }
 
-    // One call of the reader.
-    fn call<W: Write>(self, out: &mut W, bytes: &[u8]) -> io::Result<Call> {
-        let reader = self.reader;
-        let step = reader.step(bytes);
-        let next = step.reader;
-        let answer = step.answer;
-        let said = answer.said;
-        let found = answer.found;
-        let heard = match said {
-            Said::Record => self.with(out, next, found)?,
-            Said::Nothing => self.without(next),
-            Said::Refused(_) => self.without(next),
-        };
-        Ok(Call {
-            heard: heard,
-            taken: answer.taken,
-        })
+    // The hash of a chunk or of a file head is the last one.
+    fn note(&mut self, record: Record) {
+        let hash = record.words.hash;
+        match record.kind {
+            Kind::Chunk => self.chunk = hash,
+            Kind::FileHead => self.file = hash,
+            _ => {}
+        }
     }
 
     // A piece, offered until it is used up or refused. An empty one is offered once.
-    fn piece<W: Write>(self, out: &mut W, bytes: &[u8]) -> io::Result<Heard> {
-        let mut heard = self;
-        let mut at = 0;
-        loop {
-            let call = heard.call(out, &bytes[at..])?;
-            let next = call.heard;
-            let left = bytes.len() - at;
-            heard = next;
-            if call.taken == 0 {
-                return Ok(heard);
-            }
-            if left <= call.taken {
-                return Ok(heard);
-            }
-            at += call.taken;
+    fn piece<W: Write>(&mut self, out: &mut W, bytes: &[u8]) -> io::Result<()> {
+        let mut rest = bytes;
+        while let Some(left) = left_of(rest, self.call(out, rest)?) {
+            rest = left;
         }
+        Ok(())
     }
 
-    // A shard in pieces of these sizes, over and over, or in one piece where there are none.
+    // A shard in pieces of these sizes, over and over, or in one piece where there are none. Before a piece of size 0, which has a byte, comes an empty one.
     pub fn in_pieces<W: Write>(
         out: &mut W,
         tag: &[u8],
@@ -147,17 +94,12 @@ impl Heard {
         sizes: &[u8],
     ) -> io::Result<Heard> {
         let mut heard = Heard::new(tag);
-        let mut at = 0;
-        let mut turn = 0;
-        while at < shard.len() {
-            let size = size_at(sizes, turn, shard.len());
-            let end = end_of(at, size, shard.len());
-            if size == 0 {
-                heard = heard.piece(out, &shard[at..at])?;
+        let mut wanted = sizes.iter().cycle();
+        for piece in Pieces::new(shard, sizes) {
+            if wanted.next().copied() == Some(0) {
+                heard.piece(out, &[])?;
             }
-            heard = heard.piece(out, &shard[at..end])?;
-            at = end;
-            turn = next_turn(turn, sizes.len());
+            heard.piece(out, piece)?;
         }
         Ok(heard)
     }

@@ -14,9 +14,8 @@ use joined::next_joined;
 use planned::next_planned;
 use std::io;
 use std::io::{Read, Write};
-use text::say;
-use trial::cases::{SHARD_MOST, TAG_MOST, broken_said, long_part, short_part};
-use trial::told::verdict_told;
+use trial::cases::{CaseError, Cases, SHARD_MOST};
+use trial::told::{Figures, Told};
 use whole_shard::{found_told, written_told};
 
 mod aloud;
@@ -26,62 +25,37 @@ mod joined;
 mod planned;
 mod whole_shard;
 
-// One case: the records in pieces and the verdict on them, then what is made of the whole shard.
+// The records of a shard in pieces and the verdict on them, then what is made of the whole shard.
 fn told<W: Write>(out: &mut W, tag: &[u8], shard: &[u8], sizes: &[u8]) -> io::Result<()> {
     let heard = Heard::in_pieces(out, tag, shard, sizes)?;
-    let reader = heard.reader;
-    let chunk = heard.chunk;
-    let file = heard.file;
-    verdict_told(out, reader.verdict())?;
-    say(out, b"\nwhole ")?;
-    verdict_told(out, reader::judge(tag, shard))?;
-    found_told(out, tag, shard, chunk, file)?;
+    writeln!(out, "{}", Told(heard.reader.verdict().map(Figures)))?;
+    writeln!(
+        out,
+        "whole {}",
+        Told(reader::judge(tag, shard).map(Figures))
+    )?;
+    found_told(out, tag, shard, heard.chunk, heard.file)?;
     written_told(out, tag, shard)
 }
 
-// One case, if there is one, and whether it was whole.
-fn next_told<R: Read, W: Write>(input: &mut R, out: &mut W) -> io::Result<bool> {
-    let mut tag = [0u8; TAG_MOST];
-    let mut shard = [0u8; SHARD_MOST];
-    let mut sizes = [0u8; TAG_MOST];
-    let first = short_part(input, &mut tag);
-    if first.ended {
-        return Ok(false);
-    }
-    let second = long_part(input, &mut shard);
-    let third = short_part(input, &mut sizes);
-    let t = first.size;
-    let n = second.size;
-    let k = third.size;
-    let whole = first.whole & second.whole & third.whole;
-    if whole {
-        told(out, &tag[0..t], &shard[0..n], &sizes[0..k])?;
-    } else {
-        broken_said(out)?;
-    }
-    Ok(whole)
+// The part of a case that is read, if there is a case: a tag, a shard and the lengths of the pieces.
+fn next_told<R: Read, W: Write>(cases: &mut Cases<R>, out: &mut W) -> Result<(), CaseError> {
+    let tag = cases.first()?;
+    let shard = cases.long(SHARD_MOST)?;
+    let sizes = cases.short()?;
+    Ok(told(out, &tag, &shard, &sizes)?)
 }
 
-// All parts of one case, if there is one, and whether they were whole; nothing is read after one that was not.
-fn next_case<R: Read, W: Write>(input: &mut R, out: &mut W) -> io::Result<bool> {
-    Ok(
-        next_told(input, out)?
-            && next_joined(input, out)?
-            && next_planned(input, out)?
-            && next_audited(input, out)?
-            && next_blobs(input, out)?,
-    )
+// All parts of one case, if there is one.
+fn next_case<R: Read, W: Write>(cases: &mut Cases<R>, out: &mut W) -> Result<(), CaseError> {
+    next_told(cases, out)?;
+    next_joined(cases, out)?;
+    next_planned(cases, out)?;
+    next_audited(cases, out)?;
+    next_blobs(cases, out)
 }
 
-// A proved loop has to end, so the loop counts its turns down, from a number that no run uses up.
 fn main(rt: HostRuntime) -> io::Result<()> {
-    let mut input = rt.reader();
     let mut out = io::writer(&rt);
-    let mut turns = u64::MAX;
-    let mut more = true;
-    while turns > 0 && more {
-        more = next_case(&mut input, &mut out)?;
-        turns -= 1;
-    }
-    Ok(())
+    Cases::new(rt.alloc(), rt.reader()).tell(&mut out, next_case)
 }

@@ -1,59 +1,28 @@
 // A stretch of a file of a case, planned into a table of which the case lends so many rows.
-ghost use Rattle.std.specs.Prelude.{◌≡◌, ◌++◌, ◌≤◌, take, drop};
+ghost use Rattle.std.specs.Prelude.{◌≡◌, ◌++◌, ◌≤◌, length, take, drop};
 ghost use Rattle.plan.specs.Plan.{plan_of, answer_to, table_to};
 
-use crate::aloud::hash_told;
-use plan::{Planned, Row, plan};
+use crate::aloud::Hash;
+use plan::{Row, plan};
 use rules::{ChunkIndex, FileNumber};
 use std::io;
 use std::io::{Read, Write};
-use text::{refused, say};
-use trial::cases::{SHARD_MOST, TAG_MOST, broken_said, long_part, short_part};
-use trial::told::named;
-use words::number::{u32_at, u64_at};
-
-// The rows of the table.
-const ROWS: usize = 8;
+use trial::cases::{CaseError, Cases, SHARD_MOST};
+use trial::told::Told;
+use words::{Refusal, Stored};
 
 // The bytes that say what is planned: the file's number, the first byte, the byte after the last, and how many rows are lent.
 const ASKED: usize = 24;
 
-// What was answered, and the table after it.
-#[derive(Drop)]
-struct Answered {
-    rows: [Row; ROWS],
-    answer: Planned,
-}
-
 // A row that no plan made, told apart by its number.
 fn blank(n: u32) -> Row {
     Row {
-        xorb: [n as u64; 4],
+        xorb: [u64::from(n); 4],
         start: ChunkIndex(n),
         end: ChunkIndex(n),
         skip: n,
         take: n,
     }
-}
-
-fn blanks() -> [Row; ROWS] {
-    [
-        blank(1),
-        blank(2),
-        blank(3),
-        blank(4),
-        blank(5),
-        blank(6),
-        blank(7),
-        blank(8),
-    ]
-}
-
-// The rows that are lent, of those that there are.
-fn lent(wanted: usize) -> usize
-    ensures { result ≤ 8 }
-{
-    if wanted < ROWS { wanted } else { ROWS }
 }
 
 // The plan of a stretch into the first rows of a table.
@@ -63,82 +32,48 @@ fn filled(
     file: FileNumber,
     a: u64,
     b: u64,
-    mut rows: [Row; ROWS],
+    rows: &mut [Row],
     room: usize,
-) -> Answered
-    requires { room ≤ 8 }
-    ensures { (result.answer ≡ answer_to (plan_of tag.now shard.now file.0 a b room))
-        × (result.rows ≡ table_to (plan_of tag.now shard.now file.0 a b room) (take room rows) ++ drop room rows) }
+) -> Result<usize, Refusal>
+    requires { room ≤ length rows.old }
+    ensures { (result ≡ answer_to (plan_of tag.now shard.now file.0 a b room))
+        × (rows.new ≡ table_to (plan_of tag.now shard.now file.0 a b room) (take room rows.old) ++ drop room rows.old) }
 {
-    let answer = plan(tag, shard, file, a, b, &mut rows[..room]);
-    Answered { rows, answer }
+    plan(tag, shard, file, a, b, &mut rows[..room])
 }
 
-fn answer_told<W: Write>(out: &mut W, answer: Planned) -> io::Result<()> {
-    match answer {
-        Planned::Rows(count) => named(out, b"planned ok ", count as u64)?,
-        Planned::Refused(refusal) => {
-            say(out, b"planned ")?;
-            refused(out, refusal)?;
-        }
-    }
-    say(out, b"\n")
-}
-
-// A line: xorb hash, chunk start and end, bytes to skip and to take.
-fn row_told<W: Write>(out: &mut W, row: Row) -> io::Result<()> {
-    let xorb = row.xorb;
-    let start = row.start;
-    let end = row.end;
-    say(out, b"row")?;
-    hash_told(out, xorb)?;
-    named(out, b" ", start.0 as u64)?;
-    named(out, b" ", end.0 as u64)?;
-    named(out, b" ", row.skip as u64)?;
-    named(out, b" ", row.take as u64)?;
-    say(out, b"\n")
-}
-
-fn rows_told<W: Write>(out: &mut W, rows: [Row; ROWS]) -> io::Result<()> {
-    for i in 0..ROWS {
-        row_told(out, rows[i])?;
-    }
-    Ok(())
-}
-
-// A line for the answer, and one for every row of the table after it.
+// A line for the answer, and one for every row of the table after it: xorb hash, chunk start and end, bytes to skip and to take.
 fn planned_told<W: Write>(
     out: &mut W,
     tag: &[u8],
     shard: &[u8],
     asked: &[u8; ASKED],
 ) -> io::Result<()> {
-    let file = FileNumber(u32_at(asked, 0));
-    let a = u64_at(asked, 4);
-    let b = u64_at(asked, 12);
-    let room = lent(u32_at(asked, 20) as usize);
-    let answered = filled(tag, shard, file, a, b, blanks(), room);
-    let rows = answered.rows;
-    let answer = answered.answer;
-    answer_told(out, answer)?;
-    rows_told(out, rows)
+    let file = FileNumber(u32::read(asked, 0));
+    let a = u64::read(asked, 4);
+    let b = u64::read(asked, 12);
+    let mut rows = [1, 2, 3, 4, 5, 6, 7, 8].map(blank);
+    let room = rows.len().min(u32::read(asked, 20) as usize);
+    let answer = filled(tag, shard, file, a, b, &mut rows, room);
+    writeln!(out, "planned {}", Told(answer))?;
+    for row in &rows {
+        writeln!(
+            out,
+            "row {} {} {} {} {}",
+            Hash(row.xorb),
+            row.start.0,
+            row.end.0,
+            row.skip,
+            row.take
+        )?;
+    }
+    Ok(())
 }
 
-// The part of a case that is planned: a tag, a shard and what is asked; and whether it was whole.
-pub fn next_planned<R: Read, W: Write>(input: &mut R, out: &mut W) -> io::Result<bool> {
-    let mut tag = [0u8; TAG_MOST];
-    let mut shard = [0u8; SHARD_MOST];
-    let mut asked = [0u8; ASKED];
-    let of_tag = short_part(input, &mut tag);
-    let of_shard = long_part(input, &mut shard);
-    let of_asked = short_part(input, &mut asked);
-    let t = of_tag.size;
-    let n = of_shard.size;
-    let whole = of_tag.whole & of_shard.whole & of_asked.whole & (of_asked.size == ASKED);
-    if whole {
-        planned_told(out, &tag[0..t], &shard[0..n], &asked)?;
-    } else {
-        broken_said(out)?;
-    }
-    Ok(whole)
+// The part of a case that is planned: a tag, a shard and what is asked.
+pub fn next_planned<R: Read, W: Write>(cases: &mut Cases<R>, out: &mut W) -> Result<(), CaseError> {
+    let tag = cases.short()?;
+    let shard = cases.long(SHARD_MOST)?;
+    let asked = cases.exact()?;
+    Ok(planned_told(out, &tag, &shard, &asked)?)
 }

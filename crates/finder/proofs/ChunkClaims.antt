@@ -1,4 +1,5 @@
 -- The claims of finding a chunk, because each record is a xorb head, a chunk with that hash, or changes nothing but the numbers. Assumes nothing.
+use Rattle.std.specs.Prelude.{Err, Ok, None}
 use mathlib.Core.Path.{◌≡◌, refl, sym, ap, ◌∙◌, subst}
 use mathlib.Core.Logic.{◌↔◌}
 use mathlib.Core.Bool.{Bool, true, false, true≢false}
@@ -22,10 +23,9 @@ use Rattle.layout.specs.Scan.{Found, found_in, IsAccepted}
 use Rattle.layout.proofs.Answers.{if_accepted_lem, was_accepted}
 use Rattle.layout.proofs.BlockKinds.{Kinds}
 use Rattle.layout.proofs.Last.{spelling}
-use Rattle.finder.specs.Find.{chunk_at, chunk_behind, chunk_in, chunk_found}
+use Rattle.finder.specs.Find.{ChunkAnswer, the_chunk, chunk_at, chunk_behind, chunk_in, chunk_found}
 use Rattle.finder.specs.Claims.{Has, NoneHas, chunks_since, First, There, Headed, FirstChunk, NoneIn, ChunkOfTree, ChunkClaim}
-use Rattle.finder.specs.declared.FoundChunk.{FoundChunk}
-use Rattle.finder.specs.declared.FoundChunk.TheVariants as chunk
+use Rattle.finder.specs.declared.ChunkPlace.{ChunkPlace}
 use Rattle.finder.proofs.Standing.{placed_then}
 use Rattle.finder.proofs.Sections.{xorb_section_lem, file_section_kinds}
 use Rattle.finder.proofs.Firsts.{first_here, first_later, not_none, other_hash, first_stands, foot_kinds, there}
@@ -34,7 +34,7 @@ use Rattle.finder.proofs.ChunkFirsts.{chunk_if, none_if}
 
 -- a kind that changes nothing for chunks
 abbrev NoChunk : Kind → Type 0
-NoChunk k = (hash : List ℕ) (block index : ℕ) (r : Record) (later : ℕ → ℕ → FoundChunk) → chunk_at k hash block index r later ≡ later block index
+NoChunk k = (hash : List ℕ) (block index : ℕ) (r : Record) (later : ℕ → ℕ → ChunkAnswer) → chunk_at k hash block index r later ≡ later block index
 
 -- what a kind is for the search
 data Seen : Kind → Type 0 where
@@ -56,12 +56,12 @@ seen kind.Footer = another (λ h b i r l. refl) refl refl
 -- ## In any records
 
 -- the two ways in which a search ends
-data Ends (hash : List ℕ) (blocks index : ℕ) (rs : List Record) : FoundChunk → Type 0 where
-  absent : NoneHas kind.Chunk hash rs → Ends hash blocks index rs chunk.Absent
-  found : (b : BlockNumber) (i : ChunkIndex) (p : Position) → FirstChunk hash blocks index rs b i p → Ends hash blocks index rs (chunk.At b i p)
+data Ends (hash : List ℕ) (blocks index : ℕ) (rs : List Record) : ChunkAnswer → Type 0 where
+  absent : NoneHas kind.Chunk hash rs → Ends hash blocks index rs (Ok None)
+  found : (b : BlockNumber) (i : ChunkIndex) (p : Position) → FirstChunk hash blocks index rs b i p → Ends hash blocks index rs (the_chunk b i p)
 
 -- one record that is not it, and what the search behind it comes to
-behind : (hash : List ℕ) (blocks index blocks' index' : ℕ) (r : Record) (rs : List Record) {answer : FoundChunk} → (Has kind.Chunk hash r → ⊥)
+behind : (hash : List ℕ) (blocks index blocks' index' : ℕ) (r : Record) (rs : List Record) {answer : ChunkAnswer} → (Has kind.Chunk hash r → ⊥)
     → blocks' ≡ blocks + pick (same_kind r.kind kind.XorbHead) 1 0
     → index' ≡ pick (same_kind r.kind kind.XorbHead) 0 (index + pick (same_kind r.kind kind.Chunk) 1 0)
     → Ends hash blocks' index' rs answer → Ends hash blocks index (r ∷ rs) answer
@@ -78,7 +78,7 @@ module _ (hash : List ℕ) (r : Record) (rs : List Record) where
 
   module _ (block index : ℕ) (later : (b i : ℕ) → Ends hash (b + 1) i rs (chunk_behind hash b i rs)) where
     at_chunk : (t : Bool) → r.kind ≡ kind.Chunk → same_hash r.words.hash hash ≡ t
-        → Ends hash (block + 1) index (r ∷ rs) (pick t (chunk.At (record { 0 = block }) (record { 0 = index }) r.at) (chunk_behind hash block (index + 1) rs))
+        → Ends hash (block + 1) index (r ∷ rs) (pick t (the_chunk (record { 0 = block }) (record { 0 = index }) r.at) (chunk_behind hash block (index + 1) rs))
     at_chunk true e s = found (record { 0 = block }) (record { 0 = index }) r.at (record {
       first = first_here kind.Chunk hash r rs (record { kind = e; same = s });
       block = omega arith;
@@ -112,21 +112,22 @@ ends hash [] h = absent tt
 ends hash (r ∷ rs) h = at_first hash r rs (same_kind r.kind kind.XorbHead) refl h (ends_behind hash 0 0 rs) (λ hs. ends hash rs hs)
 
 -- what an end says of its answer
-if_absent : {hash : List ℕ} {blocks index : ℕ} {rs : List Record} {answer : FoundChunk} → Ends hash blocks index rs answer → answer ≡ chunk.Absent → NoneHas kind.Chunk hash rs
+if_absent : {hash : List ℕ} {blocks index : ℕ} {rs : List Record} {answer : ChunkAnswer} → Ends hash blocks index rs answer → answer ≡ Ok None → NoneHas kind.Chunk hash rs
 if_absent (absent n) e = n
-if_absent (found b i p f) e = let z : ◌≡◌ {A = ℕ} 0 1 = cc in absurd (omega arith)
+if_absent (found b i p f) e = absurd (cc)
 
-if_none : {hash : List ℕ} {blocks index : ℕ} {rs : List Record} {answer : FoundChunk} → Ends hash blocks index rs answer → NoneHas kind.Chunk hash rs → answer ≡ chunk.Absent
+if_none : {hash : List ℕ} {blocks index : ℕ} {rs : List Record} {answer : ChunkAnswer} → Ends hash blocks index rs answer → NoneHas kind.Chunk hash rs → answer ≡ Ok None
 if_none (absent n) m = refl
 if_none {hash} {rs = rs} (found b i p f) m = absurd (not_none kind.Chunk hash rs p f.first m)
 
-if_found : {hash : List ℕ} {blocks index : ℕ} {rs : List Record} {answer : FoundChunk} (b : BlockNumber) (i : ChunkIndex) (p : Position)
-    → Ends hash blocks index rs answer → answer ≡ chunk.At b i p → FirstChunk hash blocks index rs b i p
-if_found b i p (absent n) e = let z : ◌≡◌ {A = ℕ} 0 1 = cc in absurd (omega arith)
+if_found : {hash : List ℕ} {blocks index : ℕ} {rs : List Record} {answer : ChunkAnswer} (b : BlockNumber) (i : ChunkIndex) (p : Position)
+    → Ends hash blocks index rs answer → answer ≡ the_chunk b i p → FirstChunk hash blocks index rs b i p
+if_found b i p (absent n) e = absurd (cc)
 if_found {hash} {blocks} {index} {rs} b i p (found b' i' p' f) e =
-    let eb : b' ≡ b = cc in
-    let ei : i' ≡ i = cc in
-    let ep : p' ≡ p = cc in
+    let q : ◌≡◌ {A = ChunkPlace} (record { block = b'; index = i'; at = p' }) (record { block = b; index = i; at = p }) = cc in
+    let eb : b' ≡ b = ap (λ (x : ChunkPlace). x.block) q in
+    let ei : i' ≡ i = ap (λ (x : ChunkPlace). x.index) q in
+    let ep : p' ≡ p = ap (λ (x : ChunkPlace). x.at) q in
     rw (eb, ei, ep) at f
 
 -- ## In an accepted shard
@@ -165,16 +166,16 @@ module _ (tag bytes : List ℕ) (t : Bytes tag) (y : Bytes bytes) where
   module _ (hash : List ℕ) where
     ends_in : IsAccepted (found_in tag bytes).verdict → Ends hash 0 0 (found_in tag bytes).records (chunk_found tag bytes hash)
     unfolding chunk_found
-    ends_in a = subst (Ends hash 0 0 (found_in tag bytes).records) (sym (if_accepted_lem chunk.Refused (found_in tag bytes).verdict (chunk_in hash (found_in tag bytes).records) a)) (ends hash _ (headed_in a))
+    ends_in a = subst (Ends hash 0 0 (found_in tag bytes).records) (sym (if_accepted_lem Err (found_in tag bytes).verdict (chunk_in hash (found_in tag bytes).records) a)) (ends hash _ (headed_in a))
 
-    found_there : (b : BlockNumber) (i : ChunkIndex) (p : Position) → IsHash hash → chunk_found tag bytes hash ≡ chunk.At b i p → There bytes hash p
+    found_there : (b : BlockNumber) (i : ChunkIndex) (p : Position) → IsHash hash → chunk_found tag bytes hash ≡ the_chunk b i p → There bytes hash p
     unfolding chunk_found records_of
     found_there b i p h e =
-        let a = was_accepted chunk.Refused (λ (f : FoundChunk). f ≡ chunk.At b i p) (found_in tag bytes).verdict (λ s. chunk_in hash (found_in tag bytes).records) (λ r q. let z : ◌≡◌ {A = ℕ} 0 1 = cc in absurd (omega arith)) e in
+        let a = was_accepted Err (λ (f : ChunkAnswer). f ≡ the_chunk b i p) (found_in tag bytes).verdict (λ s. chunk_in hash (found_in tag bytes).records) (λ r q. absurd (cc)) e in
         let o : Accepted tag bytes = accepted tag bytes t y a in
         let s : Shard = o.shard in
         let f : First kind.Chunk hash (records_of tag s) p = subst (λ (f : Found). First kind.Chunk hash f.records p) o.spelling.found (if_found b i p (ends_in a) e).first in
-        there bytes hash p y h (first_stands kind.Chunk bytes hash 0 (rows_of tag s) _ p o.rows (foot_kinds kind.Chunk (xorb_offset s) (footer_offset s) s.footer (λ q. let z : ◌≡◌ {A = ℕ} 0 1 = cc in omega arith)) f)
+        there bytes hash p y h (first_stands kind.Chunk bytes hash 0 (rows_of tag s) _ p o.rows (foot_kinds kind.Chunk (xorb_offset s) (footer_offset s) s.footer (λ q. cc)) f)
 
 pub chunks : ChunkClaim
 chunks = record {
@@ -184,9 +185,9 @@ chunks = record {
   shard = λ tag bytes hash t y a. (if_absent (ends_in tag bytes t y hash a), if_none (ends_in tag bytes t y hash a));
   there = λ tag bytes hash b i p t y. found_there tag bytes t y hash b i p;
   tree = λ tag bytes s hash b i p t l h x.
-      subst (λ (r : FoundChunk). r ≡ chunk.At b i p ↔ ChunkOfTree hash 0 (xorb_offset s) s.xorbs b i p) (sym (chunk_spelled tag bytes hash s (spelling tag l t bytes s x)))
+      subst (λ (r : ChunkAnswer). r ≡ the_chunk b i p ↔ ChunkOfTree hash 0 (xorb_offset s) s.xorbs b i p) (sym (chunk_spelled tag bytes hash s (spelling tag l t bytes s x)))
       (chunk_if hash h 0 (xorb_offset s) s.xorbs x.sound.xorbs b i p);
   none_in_tree = λ tag bytes s hash t l h x.
-      subst (λ (r : FoundChunk). r ≡ chunk.Absent ↔ Each (λ y. NoneIn hash y.chunks) s.xorbs) (sym (chunk_spelled tag bytes hash s (spelling tag l t bytes s x)))
+      subst (λ (r : ChunkAnswer). r ≡ Ok None ↔ Each (λ y. NoneIn hash y.chunks) s.xorbs) (sym (chunk_spelled tag bytes hash s (spelling tag l t bytes s x)))
       (none_if hash h 0 (xorb_offset s) s.xorbs x.sound.xorbs);
 }

@@ -1,4 +1,3 @@
-pub mod Part
 pub mod Standing
 pub mod Sections
 pub mod Heads

@@ -1,6 +1,6 @@
 -- THE CLAIMS OF FINDING, proved in proofs/ChunkClaims and proofs/FileClaims: absent exactly if none has that hash, what is found is the first, in an accepted
 -- shard its 48 bytes stand at the position and begin with the hash, and it is the first in the shard's tree.
-use Rattle.std.specs.Prelude.{◌≡◌, ◌↔◌, ◌≢◌, List, [], ◌∷◌, ◌++◌, true, false, ℕ, ◌+◌, ◌*◌, length}
+use Rattle.std.specs.Prelude.{◌≡◌, ◌↔◌, ◌≢◌, List, [], ◌∷◌, ◌++◌, true, false, ℕ, ◌+◌, ◌*◌, length, None, Ok}
 use Rattle.words.specs.Checks.{pick}
 use Rattle.words.specs.Le.{Bytes}
 use Rattle.words.specs.Record.{IsHash, hash_at, same_hash}
@@ -15,9 +15,7 @@ use Rattle.rules.specs.declared.Kind.TheVariants as kind
 use Rattle.layout.specs.Layout.{Hash, FileBlock, Chunk, XorbBlock, Shard, Each, sum_of, file_rows, xorb_rows, xorb_offset}
 use Rattle.layout.specs.Scan.{found_in, IsAccepted}
 use Rattle.layout.specs.Claim.{Spells}
-use Rattle.finder.specs.Find.{chunk_in, chunk_found, file_in, file_found, part_at}
-use Rattle.finder.specs.declared.FoundChunk.TheVariants as chunk
-use Rattle.finder.specs.declared.FoundFile.TheVariants as file
+use Rattle.finder.specs.Find.{the_chunk, chunk_in, chunk_found, the_file, file_in, file_found, part_at}
 
 -- ## Words for the claims
 
@@ -96,19 +94,19 @@ pub record ChunkOfTree (hash : Hash) (number at : ℕ) (xorbs : List XorbBlock) 
 
 pub record ChunkClaim : Type 0 where
   -- where no chunk stands before the first xorb head: absent exactly if no chunk has that hash
-  pub absent : (hash : List ℕ) (rs : List Record) → Headed rs → chunk_in hash rs ≡ chunk.Absent ↔ NoneHas kind.Chunk hash rs
+  pub absent : (hash : List ℕ) (rs : List Record) → Headed rs → chunk_in hash rs ≡ Ok None ↔ NoneHas kind.Chunk hash rs
   -- and what is found is the first
-  pub first : (hash : List ℕ) (rs : List Record) (b : BlockNumber) (i : ChunkIndex) (p : Position) → Headed rs → chunk_in hash rs ≡ chunk.At b i p → FirstChunk hash 0 0 rs b i p
+  pub first : (hash : List ℕ) (rs : List Record) (b : BlockNumber) (i : ChunkIndex) (p : Position) → Headed rs → chunk_in hash rs ≡ the_chunk b i p → FirstChunk hash 0 0 rs b i p
   -- an accepted shard is so: absent exactly if none of its chunks has that hash
   pub headed : (tag bytes : List ℕ) → Bytes tag → Bytes bytes → IsAccepted (found_in tag bytes).verdict → Headed (found_in tag bytes).records
-  pub shard : (tag bytes hash : List ℕ) → Bytes tag → Bytes bytes → IsAccepted (found_in tag bytes).verdict → chunk_found tag bytes hash ≡ chunk.Absent ↔ NoneHas kind.Chunk hash (found_in tag bytes).records
+  pub shard : (tag bytes hash : List ℕ) → Bytes tag → Bytes bytes → IsAccepted (found_in tag bytes).verdict → chunk_found tag bytes hash ≡ Ok None ↔ NoneHas kind.Chunk hash (found_in tag bytes).records
   -- what is found there begins with the hash
-  pub there : (tag bytes hash : List ℕ) (b : BlockNumber) (i : ChunkIndex) (p : Position) → Bytes tag → Bytes bytes → IsHash hash → chunk_found tag bytes hash ≡ chunk.At b i p → There bytes hash p
+  pub there : (tag bytes hash : List ℕ) (b : BlockNumber) (i : ChunkIndex) (p : Position) → Bytes tag → Bytes bytes → IsHash hash → chunk_found tag bytes hash ≡ the_chunk b i p → There bytes hash p
   -- in the bytes of a tree: found exactly where the tree has its first chunk with that hash, and absent exactly if none of its chunks has it
   pub tree : (tag bytes : List ℕ) (s : Shard) (hash : Hash) (b : BlockNumber) (i : ChunkIndex) (p : Position) → Bytes tag → length tag ≡ 32 → IsHash hash → Spells tag s bytes
-      → chunk_found tag bytes hash ≡ chunk.At b i p ↔ ChunkOfTree hash 0 (xorb_offset s) s.xorbs b i p
+      → chunk_found tag bytes hash ≡ the_chunk b i p ↔ ChunkOfTree hash 0 (xorb_offset s) s.xorbs b i p
   pub none_in_tree : (tag bytes : List ℕ) (s : Shard) (hash : Hash) → Bytes tag → length tag ≡ 32 → IsHash hash → Spells tag s bytes
-      → chunk_found tag bytes hash ≡ chunk.Absent ↔ Each (λ x. NoneIn hash x.chunks) s.xorbs
+      → chunk_found tag bytes hash ≡ Ok None ↔ Each (λ x. NoneIn hash x.chunks) s.xorbs
 
 -- ## Files
 
@@ -123,12 +121,12 @@ FileOfTree hash number at files n p = FirstOf (λ f. f.hash) (λ f. length (file
 
 pub record FileClaim : Type 0 where
   -- the same, in any records
-  pub absent : (hash : List ℕ) (files : ℕ) (rs : List Record) → file_in hash files rs ≡ file.Absent ↔ NoneHas kind.FileHead hash rs
-  pub first : (hash : List ℕ) (files : ℕ) (rs : List Record) (n : FileNumber) (p : Position) → file_in hash files rs ≡ file.At n p → FirstFile hash files rs n p
-  pub shard : (tag bytes hash : List ℕ) → IsAccepted (found_in tag bytes).verdict → file_found tag bytes hash ≡ file.Absent ↔ NoneHas kind.FileHead hash (found_in tag bytes).records
-  pub there : (tag bytes hash : List ℕ) (n : FileNumber) (p : Position) → Bytes tag → Bytes bytes → IsHash hash → file_found tag bytes hash ≡ file.At n p → There bytes hash p
+  pub absent : (hash : List ℕ) (files : ℕ) (rs : List Record) → file_in hash files rs ≡ Ok None ↔ NoneHas kind.FileHead hash rs
+  pub first : (hash : List ℕ) (files : ℕ) (rs : List Record) (n : FileNumber) (p : Position) → file_in hash files rs ≡ the_file n p → FirstFile hash files rs n p
+  pub shard : (tag bytes hash : List ℕ) → IsAccepted (found_in tag bytes).verdict → file_found tag bytes hash ≡ Ok None ↔ NoneHas kind.FileHead hash (found_in tag bytes).records
+  pub there : (tag bytes hash : List ℕ) (n : FileNumber) (p : Position) → Bytes tag → Bytes bytes → IsHash hash → file_found tag bytes hash ≡ the_file n p → There bytes hash p
   -- the first file stands behind the header
   pub tree : (tag bytes : List ℕ) (s : Shard) (hash : Hash) (n : FileNumber) (p : Position) → Bytes tag → length tag ≡ 32 → IsHash hash → Spells tag s bytes
-      → file_found tag bytes hash ≡ file.At n p ↔ FileOfTree hash 0 48 s.files n p
+      → file_found tag bytes hash ≡ the_file n p ↔ FileOfTree hash 0 48 s.files n p
   pub none_in_tree : (tag bytes : List ℕ) (s : Shard) (hash : Hash) → Bytes tag → length tag ≡ 32 → IsHash hash → Spells tag s bytes
-      → file_found tag bytes hash ≡ file.Absent ↔ Each (λ f. f.hash ≢ hash) s.files
+      → file_found tag bytes hash ≡ Ok None ↔ Each (λ f. f.hash ≢ hash) s.files

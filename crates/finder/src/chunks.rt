@@ -2,42 +2,37 @@
 ghost use Rattle.std.specs.Prelude.{◌≡◌};
 ghost use Rattle.finder.specs.Find.{chunk_found};
 
-use crate::FoundChunk;
-use rules::{BlockNumber, ChunkIndex, Verdict};
+use crate::ChunkPlace;
+use rules::{BlockNumber, ChunkIndex};
 use whole::last_place;
-use words::hash::{hash_at, is_ones, same_hash};
-use words::{Position, Words};
+use words::hash::{is_ones, same_hash};
+use words::{Position, Refusal, Stored, Words};
 
 // The first chunk with that hash.
-pub fn find_chunk(tag: &[u8], shard: &[u8], hash: [u64; 4]) -> FoundChunk
+#[tactic(auto, using(crate::proofs::ChunkWalk::next_block, crate::proofs::ChunkWalk::block_over, crate::proofs::ChunkWalk::next_chunk, crate::proofs::Begin::chunk_refused, crate::proofs::Begin::chunks_from_lem))]
+pub fn find_chunk(tag: &[u8], shard: &[u8], hash: [u64; 4]) -> Result<Option<ChunkPlace>, Refusal>
     ensures { result ≡ chunk_found tag.now shard.now hash }
 {
     let place = last_place(tag, shard);
-    if let Verdict::Refused(refusal) = place.verdict() {
-        return FoundChunk::Refused(refusal);
-    }
-    let offset = place.offset;
-    let mut found = FoundChunk::Absent;
-    let mut at = offset.0 as usize;
+    place.verdict()?;
+    let mut at = place.offset.0 as usize;
     let mut block = 0;
-    'blocks: loop {
+    loop {
         let head = Words::read(shard, at);
-        let mark = head.hash;
-        if is_ones(mark) {
-            break 'blocks;
+        if is_ones(head.hash) {
+            return Ok(None);
         }
         at += Words::SIZE;
-        let n = head.b;
-        let mut i = 0;
-        while i < n {
-            if same_hash(hash_at(shard, at), hash) {
-                found = FoundChunk::At(BlockNumber(block), ChunkIndex(i), Position(at as u64));
-                break 'blocks;
+        for index in 0..head.b {
+            if same_hash(<[u64; 4]>::read(shard, at), hash) {
+                return Ok(Some(ChunkPlace {
+                    block: BlockNumber(block),
+                    index: ChunkIndex(index),
+                    at: Position(at as u64),
+                }));
             }
             at += Words::SIZE;
-            i += 1;
         }
         block += 1;
     }
-    found
 }

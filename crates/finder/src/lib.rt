@@ -2,7 +2,7 @@
 #![tactic(auto)]
 
 use rules::{BlockNumber, ChunkIndex, FileNumber};
-use words::{Position, Refusal};
+use words::Position;
 
 mod chunks;
 mod files;
@@ -13,18 +13,19 @@ pub use chunks::find_chunk;
 pub use files::find_file;
 pub use parts::record_at;
 
-#[derive(Clone, Copy)]
-pub enum FoundChunk {
-    At(BlockNumber, ChunkIndex, Position),
-    Absent,
-    Refused(Refusal),
+// Where a chunk stands: in that block, behind so many chunks, at that position.
+#[derive(Clone, Copy, Debug, PartialEq, Eq)]
+pub struct ChunkPlace {
+    pub block: BlockNumber,
+    pub index: ChunkIndex,
+    pub at: Position,
 }
 
-#[derive(Clone, Copy)]
-pub enum FoundFile {
-    At(FileNumber, Position),
-    Absent,
-    Refused(Refusal),
+// Where a file stands: behind so many files, its head at that position.
+#[derive(Clone, Copy, Debug, PartialEq, Eq)]
+pub struct FilePlace {
+    pub number: FileNumber,
+    pub at: Position,
 }
 
 // The paper's numbers for what finding a chunk gives. `said` is 0 where it is absent, 1 where it is found, 2 for a refusal.

@@ -2,28 +2,29 @@
 ghost use Rattle.std.specs.Prelude.{◌≡◌};
 ghost use Rattle.finder.specs.Find.{chunk_numbers, file_numbers};
 
-use crate::{FoundChunk, FoundChunkNumbers, FoundFile, FoundFileNumbers};
+use crate::{ChunkPlace, FilePlace, FoundChunkNumbers, FoundFileNumbers};
+use words::Refusal;
 
-impl FoundChunk {
-    pub fn numbers(self) -> FoundChunkNumbers
-        ensures { result ≡ chunk_numbers self }
-    {
-        match self {
-            FoundChunk::At(block, index, at) => FoundChunkNumbers {
-                at: at.0,
+impl From<Result<Option<ChunkPlace>, Refusal>> for FoundChunkNumbers {
+    ghost from_gives = { λ answer numbers. numbers ≡ chunk_numbers answer };
+
+    fn from(answer: Result<Option<ChunkPlace>, Refusal>) -> FoundChunkNumbers {
+        match answer {
+            Ok(Some(place)) => FoundChunkNumbers {
+                at: place.at.0,
                 said: 1,
                 number: 0,
-                block: block.0,
-                index: index.0,
+                block: place.block.0,
+                index: place.index.0,
             },
-            FoundChunk::Absent => FoundChunkNumbers {
+            Ok(None) => FoundChunkNumbers {
                 at: 0,
                 said: 0,
                 number: 0,
                 block: 0,
                 index: 0,
             },
-            FoundChunk::Refused(refusal) => FoundChunkNumbers {
+            Err(refusal) => FoundChunkNumbers {
                 at: refusal.at.0,
                 said: 2,
                 number: refusal.number,
@@ -34,24 +35,24 @@ impl FoundChunk {
     }
 }
 
-impl FoundFile {
-    pub fn numbers(self) -> FoundFileNumbers
-        ensures { result ≡ file_numbers self }
-    {
-        match self {
-            FoundFile::At(file, at) => FoundFileNumbers {
-                at: at.0,
+impl From<Result<Option<FilePlace>, Refusal>> for FoundFileNumbers {
+    ghost from_gives = { λ answer numbers. numbers ≡ file_numbers answer };
+
+    fn from(answer: Result<Option<FilePlace>, Refusal>) -> FoundFileNumbers {
+        match answer {
+            Ok(Some(place)) => FoundFileNumbers {
+                at: place.at.0,
                 said: 1,
                 number: 0,
-                file: file.0,
+                file: place.number.0,
             },
-            FoundFile::Absent => FoundFileNumbers {
+            Ok(None) => FoundFileNumbers {
                 at: 0,
                 said: 0,
                 number: 0,
                 file: 0,
             },
-            FoundFile::Refused(refusal) => FoundFileNumbers {
+            Err(refusal) => FoundFileNumbers {
                 at: refusal.at.0,
                 said: 2,
                 number: refusal.number,

@@ -4,17 +4,15 @@ ghost use Rattle.finder.specs.Find.{PartOf};
 use words::{Position, Words};
 
 // An empty part where 48 bytes don't fit.
+#[tactic(auto, unfolding(crate::specs::Find::part_at))]
 pub fn record_at(shard: &[u8], at: Position) -> &[u8]
     ensures { PartOf shard.entry at.0 result }
 {
-    let n = shard.len();
     let start = at.0 as usize;
-    if n < Words::SIZE {
-        return &shard[0..0];
+    let end = start.saturating_add(Words::SIZE);
+    if end <= shard.len() {
+        &shard[start..end]
+    } else {
+        &[]
     }
-    if n - Words::SIZE < start {
-        return &shard[0..0];
-    }
-    let end = start + Words::SIZE;
-    &shard[start..end]
 }

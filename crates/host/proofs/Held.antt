@@ -1,5 +1,6 @@
 -- What a host holds after any calls is what the reader that it stands for holds after calls on the pieces offered, because the way out and in again changes nothing for a begun reader, and a
 -- read is as many calls as its table has rows; so the claims about readers are claims about what is held. Assumes nothing.
+use Rattle.std.specs.Prelude.{Option, Some, None, Result, Ok, Err}
 use mathlib.Core.Path.{◌≡◌, refl, sym, ap, ap₂, ◌∙◌, subst}
 use mathlib.Core.Logic.{◌⊎◌, inl, inr}
 use mathlib.Core.List.{List, [], ◌∷◌, ◌++◌, append-nil, append_assoc}
@@ -20,17 +21,17 @@ use Rattle.rules.specs.declared.Due.{Due}
 use Rattle.rules.specs.declared.Due.TheVariants.{Refused}
 use Rattle.layout.specs.Layout.{Each}
 use Rattle.layout.specs.Reach.{RoomBy}
-use Rattle.reader.specs.Stream.{fresh, no_record, said_number, step_of, verdict_of}
+use Rattle.reader.specs.Stream.{fresh, step_of, verdict_of}
 use Rattle.reader.specs.Rows.{Reading, read_for}
 use Rattle.reader.specs.Readings.{Begun, begun, after as stepped, Seen, record_by, called, then_seen, Holds}
 use Rattle.reader.specs.Showings.{rows_in, rests_of, SaysWhy, UsedUp}
 use Rattle.reader.specs.declared.Reader.{Reader}
-use Rattle.reader.specs.declared.Said.{Said}
-use Rattle.reader.specs.declared.Said.TheVariants as said
+use Rattle.reader.specs.declared.Ended.{Ended}
+use Rattle.reader.specs.declared.Ended.TheVariants as ended
 use Rattle.reader.proofs.Calls.{verdict_refused}
 use Rattle.reader.proofs.Theorem.{reader}
 use Rattle.reader.proofs.Shown.{rows}
-use Rattle.host.specs.Boundary.{record_out, reader_in, reader_out, step_out, verdict_out}
+use Rattle.host.specs.Boundary.{no_record, reader_in, reader_out, found_number, ended_number, step_out, verdict_out}
 use Rattle.host.specs.Calls.{step_by, read_by, verdict_for}
 use Rattle.host.specs.Claims.{Call, steps, reads, asks, GoodBytes, shown_by, after, after_all, pieces_of, pieces_all, held, HeldClaim, Refusing, OnClaim}
 use Rattle.host.specs.declared.ReaderState.{ReaderState}
@@ -47,10 +48,8 @@ rows_long [] = refl
 rows_long (r ∷ rs) = omega (arith, rows_long rs)
 
 -- what a step shows is the row of the record that it hands out
-shown : (s : Said) (taken : ℕ) (found : Record) → shown_by (step_out (record { taken = taken; found = found; said = s })) ≡ rows_in (record_by s found)
-shown said.Nothing taken found = refl
-shown said.Record taken found = refl
-shown (said.Refused refusal) taken found = refl
+shown : (found : Result (Option Record) Refusal) (taken : ℕ) → shown_by (step_out (record { taken = taken; found = found })) ≡ rows_in (record_by found)
+shown found taken = grind arith
 
 -- and the first rows of the table are those of the records
 table_rows : (table : List ℕ) (rs : List Record) → length rs ≤ length table / 9 → take (9 * length rs) (puts table 0 (rows_in rs)) ≡ rows_in rs
@@ -98,7 +97,7 @@ goes r b (steps piece) y =
       begun_is = stepped b piece y;
       state = rw (reader_back r b);
       reader_is = refl;
-      rows_are = rw (reader_back r b, append-nil) (shown s.answer.said s.answer.taken s.answer.found);
+      rows_are = rw (reader_back r b, append-nil) (shown s.answer.found s.answer.taken);
     }
 goes r b (reads piece table) y =
     let x = read_for r piece table in
@@ -162,11 +161,16 @@ held_is tag calls y =
 
 -- ## On from what is held
 
--- what is said is a refusal if it is told so
-refused_said : (s : Said) → said_number s ≡ 2 → (f : Refusal) × (s ≡ said.Refused f)
-refused_said said.Nothing e = absurd (omega (arith, e))
-refused_said said.Record e = absurd (omega (arith, e))
-refused_said (said.Refused f) e = (f, refl)
+-- what is said is a refusal if it is told so, of a call and of a read
+refused_found : (x : Result (Option Record) Refusal) → found_number x ≡ 2 → (f : Refusal) × (x ≡ Err f)
+refused_found (Ok None) e = absurd (omega (arith, e))
+refused_found (Ok (Some r)) e = absurd (omega (arith, e))
+refused_found (Err f) e = (f, refl)
+
+refused_ended : (x : Result Ended Refusal) → ended_number x ≡ 2 → (f : Refusal) × (x ≡ Err f)
+refused_ended (Ok ended.PieceUsed) e = absurd (omega (arith, e))
+refused_ended (Ok ended.TableFull) e = absurd (omega (arith, e))
+refused_ended (Err f) e = (f, refl)
 
 -- a reader that holds a refusal goes out as one
 refusing : (r : Reader) → Begun r → (f : Refusal) → Holds r f → Refusing (reader_out r).stand f.number f.at.0
@@ -188,7 +192,7 @@ module _ (r : Reader) (b : Begun r) where
     holds : r.stand.place.due ≡ Refused number
     holds = ap (λ (x : Reader). x.stand.place.due) (sym back) ∙ rw (h.code, h.number_is, ne_eqb number 0 h.some)
 
-    step_again : (piece : List ℕ) → step_by s piece ≡ record { reader = s; answer = record { found = record_out no_record; taken = 0; at = at; said = 2; number = number } }
+    step_again : (piece : List ℕ) → step_by s piece ≡ record { reader = s; answer = record { found = no_record; taken = 0; at = at; said = 2; number = number } }
     unfolding step_by
     step_again piece = rw (back, (reader.refused r piece).again number holds, h.at_is)
 
@@ -203,7 +207,7 @@ module _ (r : Reader) (b : Begun r) where
   step_refuses : (piece : List ℕ) → Bytes piece → (step_by s piece).answer.said ≡ 2 → Refusing (step_by s piece).reader.stand (step_by s piece).answer.number (step_by s piece).answer.at
   unfolding step_by
   step_refuses piece y e =
-      let (f, i) = refused_said (step_of r piece).answer.said (rw back at e) in
+      let (f, i) = refused_found (step_of r piece).answer.found (rw back at e) in
       rw (back, i) (refusing (step_of r piece).reader (stepped b piece y) f ((reader.refused r piece).holds f i))
 
   module _ (piece table : List ℕ) (y : Bytes piece) where
@@ -213,18 +217,18 @@ module _ (r : Reader) (b : Begun r) where
     read_refuses : (read_by s piece table).answer.said ≡ 2 → Refusing (read_by s piece table).reader.stand (read_by s piece table).answer.number (read_by s piece table).answer.at
     unfolding read_by
     read_refuses e =
-        let (f, i) = refused_said x.answer.said (rw back at e) in
-        let h : Holds x.answer.reader f = subst (λ (q : Said). SaysWhy q x piece (length table / 9)) i (rows.shows r b piece y table).says in
+        let (f, i) = refused_ended x.answer.ended (rw back at e) in
+        let h : Holds x.answer.reader f = subst (λ (q : Result Ended Refusal). SaysWhy q x piece (length table / 9)) i (rows.shows r b piece y table).says in
         rw (back, i) (refusing x.answer.reader (rows.reads r b piece y table) f h)
 
     room : (length piece + 200) / 48 + 1 ≤ length table / 9 → (((read_by s piece table).answer.said ≡ 0) × ((read_by s piece table).answer.taken ≡ length piece)) ⊎ ((read_by s piece table).answer.said ≡ 2)
     unfolding read_by
-    room l = rw back (go x.answer.said (rows.room r b piece y table l))
+    room l = rw back (go x.answer.ended (rows.room r b piece y table l))
       where
-        go : (q : Said) → UsedUp q x piece → ((said_number q ≡ 0) × (x.answer.taken ≡ length piece)) ⊎ (said_number q ≡ 2)
-        go said.Nothing u = inl (refl, u)
-        go said.Record u = absurd u
-        go (said.Refused f) u = inr refl
+        go : (q : Result Ended Refusal) → UsedUp q x piece → ((ended_number q ≡ 0) × (x.answer.taken ≡ length piece)) ⊎ (ended_number q ≡ 2)
+        go (Ok ended.PieceUsed) u = inl (refl, u)
+        go (Ok ended.TableFull) u = absurd u
+        go (Err f) u = inr refl
 
   on_reader : OnClaim s
   on_reader =

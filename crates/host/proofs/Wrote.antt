@@ -1,15 +1,17 @@
 -- What a host holds after offers is what the writer that it stands for holds after those of a known kind, because the way out and in again changes nothing and an offer of no known kind leaves
 -- the writer as it is; so both round trips are claims about what is held. Assumes nothing.
+use Rattle.std.specs.Prelude.{Result}
+use Rattle.words.specs.declared.Refusal.{Refusal}
 use mathlib.Core.Path.{◌≡◌, refl, sym, ap, ap₂, ◌∙◌, subst}
 use mathlib.Core.Logic.{◌≢◌}
 use mathlib.Core.Bool.{Bool, true, false}
 use mathlib.Core.List.{List, [], ◌∷◌, ◌++◌}
-use Prim.Native.Nat.{ℕ, zero, suc, ◌^◌, ◌<◌}
+use Prim.Native.Nat.{ℕ, ◌^◌, ◌<◌}
 use native.Mathlib.Omega.{arith}
 use lib.Dec.{ltb}
 use lib.ListN.{length, take, get_or}
-use borrow.Author.Tests.{lt-ltb}
 use Rattle.words.specs.Checks.{pick}
+use Rattle.words.specs.Refusals.{wrote_numbers}
 use Rattle.words.specs.Le.{Bytes}
 use Rattle.words.specs.Record.{IsHash, no_tag}
 use Rattle.words.proofs.Records.{hash_is}
@@ -19,22 +21,19 @@ use Rattle.rules.specs.declared.Record.{Record}
 use Rattle.layout.specs.Reach.{Reached}
 use Rattle.layout.specs.Scan.{Found, found_in, IsAccepted}
 use Rattle.layout.proofs.Reach.{reached_start, reached_refused}
-use Rattle.writer.specs.Offers.{words_of, InRange}
-use Rattle.writer.specs.Write.{wrote_by, refusal_by, next_by, written_of, buffer_of, verdict_of}
+use Rattle.writer.specs.Offers.{InRange}
+use Rattle.writer.specs.Write.{next_by, written_of, buffer_of, verdict_of}
 use Rattle.writer.specs.Write as write
 use Rattle.writer.specs.Writings.{Call, bytes_by, once}
 use Rattle.writer.specs.Writings as writings
 use Rattle.writer.specs.declared.Writer.{Writer}
-use Rattle.writer.specs.declared.Answer.{Answer}
-use Rattle.writer.specs.declared.Answer.TheVariants as answer
 use Rattle.writer.proofs.Calls.{put_kept, by_tag, fresh_good, fresh_bad}
 use Rattle.writer.proofs.ReadAfterWrite.{reads_back, read_after_write}
 use Rattle.writer.proofs.WriteAfterRead.{write_after_read}
-use Rattle.host.specs.Boundary.{writer_out, written_out, verdict_out, offer_in}
+use Rattle.host.specs.Boundary.{writer_out, verdict_out, offer_in}
 use Rattle.host.specs.Calls.{unknown, written_for, buffer_for, Put, put_by, verdict_for}
 use Rattle.host.specs.Claims.{Offered, Written, written, known, InRanges, wrote, WroteClaim, StaysClaim, OffersOf}
 use Rattle.host.specs.declared.WriterState.{WriterState}
-use Rattle.host.specs.declared.OfferState.{OfferState}
 use Rattle.host.proofs.Back.{place_back, writer_back, offer_back, kind_known}
 
 -- ## Writers that calls give
@@ -49,19 +48,11 @@ good_fresh tag b = by_tag tag
     (λ n. rw (fresh_bad tag n) (record { hash = record { four = refl; each = zeros }; reached = reached_refused 2 _ (omega arith) reached_start }))
   where
     zeros : (i : ℕ) → get_or no_tag.0 i 0 < 2 ^ 64
-    zeros zero = omega arith
-    zeros (suc zero) = omega arith
-    zeros (suc (suc zero)) = omega arith
-    zeros (suc (suc (suc zero))) = omega arith
-    zeros (suc (suc (suc (suc i)))) = omega arith
+    zeros i = grind arith
 
 same_tag : (w : Writer) (c : Call) → (once w c).writer.tag ≡ w.tag
 unfolding once written_of
-same_tag w c = go (write.answer_of w c.offer (length c.buffer))
-  where
-    go : (a : Answer) → (next_by a w (words_of w.tag c.offer)).tag ≡ w.tag
-    go (answer.Wrote n) = refl
-    go (answer.Refused f) = refl
+same_tag w c = grind arith
 
 good_once : (w : Writer) → Good w → (c : Call) → InRange c.offer → Good (once w c).writer
 unfolding writings.written
@@ -70,9 +61,8 @@ good_once w g c i = record { hash = rw (same_tag w c) g.hash; reached = (reads_b
 -- ## One offer
 
 -- what it writes stands at the start of the buffer
-written_bytes : (a : Answer) (buffer : List ℕ) → take (wrote_by a) buffer ≡ bytes_by a buffer
-written_bytes (answer.Wrote n) buffer = refl
-written_bytes (answer.Refused f) buffer = refl
+written_bytes : (a : Result ℕ Refusal) (buffer : List ℕ) → take (wrote_numbers a).wrote buffer ≡ bytes_by a buffer
+written_bytes a buffer = grind arith
 
 abbrev state : Writer → WriterState
 state w = record { stand = writer_out w }
@@ -84,14 +74,14 @@ ends x = record { writer = state x.writer; bytes = x.bytes }
 abbrev put_as : Bool → Writer → Offered → Put
 put_as t w o =
     let x = pick t (written_of w (offer_in o.offer) (length o.buffer)) (unknown w) in
-    record { writer = state x.writer; answer = written_out x.answer; buffer = pick t (buffer_of w (offer_in o.offer) o.buffer) o.buffer }
+    record { writer = state x.writer; answer = wrote_numbers x.answer; buffer = pick t (buffer_of w (offer_in o.offer) o.buffer) o.buffer }
 
 put_is : (w : Writer) → Reached w.place → (o : Offered) → put_by (state w) o.offer o.buffer ≡ put_as (ltb o.offer.kind 9) w o
 unfolding put_by
 put_is w r o =
     ap (λ (v : Writer).
     let x = written_for v o.offer (length o.buffer) in
-    record { writer = state x.writer; answer = written_out x.answer; buffer = buffer_for v o.offer o.buffer }) (writer_back w r)
+    record { writer = state x.writer; answer = wrote_numbers x.answer; buffer = buffer_for v o.offer o.buffer }) (writer_back w r)
 
 -- and then the others
 abbrev and_then : Put → List Offered → Written
@@ -118,11 +108,7 @@ wrote_all (o ∷ os) w g (i, is) =
 
 ranges : (os : List Offered) → InRanges os → writings.InRanges (known os)
 ranges [] i = tt
-ranges (o ∷ os) (i, is) = go (ltb o.offer.kind 9) (ranges os is)
-  where
-    go : (t : Bool) → writings.InRanges (known os) → writings.InRanges (pick t (record { offer = offer_in o.offer; buffer = o.buffer } ∷ known os) (known os))
-    go true r = (i, r)
-    go false r = r
+ranges (o ∷ os) (i, is) = grind (arith, ranges os is)
 
 -- ## From a fresh writer
 
@@ -154,13 +140,7 @@ module _ (tag : List ℕ) (b : Bytes tag) (os : List Offered) (i : InRanges os) 
 -- a refused offer leaves the writer and the buffer as they were
 stays_by : (t : Bool) (w : Writer) (o : Offered) → (put_as t w o).answer.number ≢ 0 → ((put_as t w o).writer ≡ state w) × ((put_as t w o).buffer ≡ o.buffer)
 unfolding written_of
-stays_by true w o n = go (write.answer_of w (offer_in o.offer) (length o.buffer)) refl n
-  where
-    go : (a : Answer) → write.answer_of w (offer_in o.offer) (length o.buffer) ≡ a → (refusal_by a).number ≢ 0
-        → (state (next_by (write.answer_of w (offer_in o.offer) (length o.buffer)) w (words_of w.tag (offer_in o.offer))) ≡ state w) × (buffer_of w (offer_in o.offer) o.buffer ≡ o.buffer)
-    go (answer.Wrote size) e m = absurd (m refl)
-    go (answer.Refused f) e m = (ap (λ (a : Answer). state (next_by a w (words_of w.tag (offer_in o.offer)))) e, sym (put_kept w (offer_in o.offer) o.buffer f e))
-stays_by false w o n = (refl, refl)
+stays_by t w o n = grind (arith, put_kept)
 
 pub stays : (tag : List ℕ) → Bytes tag → (os : List Offered) → InRanges os → StaysClaim tag os
 stays tag b os i o n =
@@ -176,8 +156,7 @@ offered [] [] e = tt
 offered [] (o ∷ os) e = absurd e
 offered (r ∷ rs) [] e = absurd e
 offered (r ∷ rs) (o ∷ os) (e, l, es) =
-    let k : ltb o.offer.kind 9 ≡ true = lt-ltb _ _ (subst (λ (x : OfferState). x.kind < 9) (sym e) (kind_known r)) in
-    rw k (ap offer_in e ∙ offer_back r, l, offered rs os es)
+    grind (arith, kind_known r, offer_back r, offered rs os es)
 
 pub again : (tag : List ℕ) → Bytes tag → (bytes : List ℕ) → Bytes bytes → IsAccepted (found_in tag bytes).verdict
     → (os : List Offered) → InRanges os → OffersOf (found_in tag bytes).records os → (wrote tag os).bytes ≡ bytes

@@ -1,22 +1,22 @@
 -- STATES AND ANSWERS AS NUMBERS: how each crosses to C, and how the numbers are taken when they come back.
 -- Every number is taken: a code of what is due that is not given out, and a refusal with number 0, is a refusal with 255; and a mark is true unless it is 0.
-use Rattle.std.specs.Prelude.{ℕ, Bool, not, eqb}
+use Rattle.std.specs.Prelude.{ℕ, Bool, not, eqb, ltb, replicate, Option, Some, None, Result, Ok, Err}
+use Rattle.words.specs.declared.Refusal.{Refusal}
+use Rattle.words.specs.Refusals.{no_refusal}
 use Rattle.words.specs.Checks.{pick}
 use Rattle.words.specs.Le.{low, long}
+use Rattle.rules.specs.Rules.{nothing}
 use Rattle.rules.specs.Kinds.{row_of}
-use Rattle.rules.specs.Verdicts.{numbers_of}
 use Rattle.rules.specs.declared.Place.{Place}
 use Rattle.rules.specs.declared.Record.{Record}
-use Rattle.rules.specs.declared.Verdict.{Verdict}
+use Rattle.rules.specs.Verdicts.{Verdict}
 use Rattle.rules.specs.declared.Due.{Due}
 use Rattle.rules.specs.declared.Due.TheVariants as due
-use Rattle.reader.specs.Stream.{said_number, refusal_said}
 use Rattle.reader.specs.declared.Stand.{Stand}
 use Rattle.reader.specs.declared.Reader.{Reader}
 use Rattle.reader.specs.declared.Answer.{Answer}
-use Rattle.reader.specs.declared.Said.{Said}
-use Rattle.writer.specs.Write.{wrote_by, refusal_by}
-use Rattle.writer.specs.declared.Answer.{Answer as Put}
+use Rattle.reader.specs.declared.Ended.{Ended}
+use Rattle.reader.specs.declared.Ended.TheVariants as ended
 use Rattle.writer.specs.declared.Writer.{Writer}
 use Rattle.writer.specs.declared.Offer.{Offer}
 use Rattle.writer.specs.declared.Fields.{Fields}
@@ -30,7 +30,7 @@ use Rattle.host.specs.declared.RecordState.{RecordState}
 use Rattle.host.specs.declared.VerdictState.{VerdictState}
 use Rattle.host.specs.declared.StepState.{StepState}
 use Rattle.host.specs.declared.OfferState.{OfferState}
-use Rattle.host.specs.declared.WrittenState.{WrittenState}
+use Rattle.host.specs.declared.UnknownKind.{UnknownKind}
 
 -- ## Places
 
@@ -111,7 +111,15 @@ record_out r = record {
   d = r.words.d;
 }
 
--- the fields of an offer, by the paper's row; a kind that is not 0 to 8 is no offer, and is not put (`written_for`)
+-- where no record was found, zeros go out
+abbrev pub no_record : RecordState
+no_record = record { hash = replicate 4 0; at = 0; offset = 0; kind = 0; a = 0; b = 0; c = 0; d = 0 }
+
+-- what is offered, where its kind is known: a kind that is not 0 to 8 is no offer, and is not put (`written_for`)
+abbrev pub if_known : {A : Type 0} → OfferState → A → Result A UnknownKind
+if_known s x = pick (ltb s.kind 9) (Ok x) (Err (record { 0 = s.kind }))
+
+-- the fields of an offer, by the paper's row
 abbrev pub fields_in : OfferState → Fields
 fields_in s =
     pick (eqb s.kind 0) (fields.Header s.x)
@@ -140,15 +148,10 @@ offer_for s = record {
   d = s.d;
 }
 
--- the paper's numbers
+-- an accepted shard has no number and no position; a refusal has zeros for the rest
 abbrev pub verdict_out : Verdict → VerdictState
-verdict_out v = record {
-  length = (numbers_of v).summary.length;
-  totals = (numbers_of v).summary.totals;
-  at = (numbers_of v).refusal.at.0;
-  number = (numbers_of v).refusal.number;
-  footer = mark (numbers_of v).summary.footer;
-}
+verdict_out (Ok summary) = record { length = summary.length; totals = summary.totals; at = 0; number = 0; footer = mark summary.footer }
+verdict_out (Err refusal) = record { length = 0; totals = nothing; at = refusal.at.0; number = refusal.number; footer = 0 }
 
 -- ## Readers
 
@@ -165,17 +168,39 @@ reader_in s = record { stand = stand_in s.stand; carry = s.carry }
 abbrev pub reader_out : Reader → ReaderState
 reader_out r = record { stand = stand_out r.stand; carry = r.carry }
 
+-- what a call found: 0 nothing yet, 1 a record, 2 a refusal
+abbrev pub found_number : Result (Option Record) Refusal → ℕ
+found_number (Ok None) = 0
+found_number (Ok (Some r)) = 1
+found_number (Err refusal) = 2
+
+-- what ended the reading of a piece: 0 it is used up, 1 the table is full, 2 a refusal
+abbrev pub ended_number : Result Ended Refusal → ℕ
+ended_number (Ok ended.PieceUsed) = 0
+ended_number (Ok ended.TableFull) = 1
+ended_number (Err refusal) = 2
+
+-- the refusal, or number 0 at position 0
+abbrev pub refusal_of : {A : Type 0} → Result A Refusal → Refusal
+refusal_of (Ok x) = no_refusal
+refusal_of (Err refusal) = refusal
+
+abbrev pub found_out : Result (Option Record) Refusal → RecordState
+found_out (Ok None) = no_record
+found_out (Ok (Some r)) = record_out r
+found_out (Err refusal) = no_record
+
 abbrev pub step_out : Answer → StepState
 step_out a = record {
-  found = record_out a.found;
+  found = found_out a.found;
   taken = a.taken;
-  at = (refusal_said a.said).at.0;
-  said = said_number a.said;
-  number = (refusal_said a.said).number;
+  at = (refusal_of a.found).at.0;
+  said = found_number a.found;
+  number = (refusal_of a.found).number;
 }
 
-abbrev pub read_out : ℕ → ℕ → Said → ReadState
-read_out taken count s = record { taken = taken; count = count; at = (refusal_said s).at.0; said = said_number s; number = (refusal_said s).number }
+abbrev pub read_out : ℕ → ℕ → Result Ended Refusal → ReadState
+read_out taken count e = record { taken = taken; count = count; at = (refusal_of e).at.0; said = ended_number e; number = (refusal_of e).number }
 
 -- ## Writers
 
@@ -184,6 +209,3 @@ writer_in s = record { tag = record { 0 = s.tag }; place = place_in s.place }
 
 abbrev pub writer_out : Writer → StandState
 writer_out w = record { tag = w.tag.0; place = place_out w.place 0 }
-
-abbrev pub written_out : Put → WrittenState
-written_out a = record { wrote = wrote_by a; at = (refusal_by a).at.0; number = (refusal_by a).number }

@@ -1,6 +1,8 @@
 -- WHAT A HOST CALLS: the answer, what is lent afterwards, and the state that the host keeps, for every state and all that is lent.
 use Rattle.std.specs.Prelude.{ℕ, List, ltb, length}
 use Rattle.words.specs.Checks.{pick}
+use Rattle.words.specs.Refusals.{wrote_numbers}
+use Rattle.words.specs.declared.WroteNumbers.{WroteNumbers}
 use Rattle.rules.specs.Kinds.{not_due}
 use Rattle.rules.specs.Verdicts.{verdict_at}
 use Rattle.reader.specs.Stream.{step_of}
@@ -8,14 +10,13 @@ use Rattle.reader.specs.Rows.{read_for}
 use Rattle.writer.specs.Write.{refuses, written_of, buffer_of}
 use Rattle.writer.specs.declared.Writer.{Writer}
 use Rattle.writer.specs.declared.Written.{Written}
-use Rattle.host.specs.Boundary.{place_in, reader_in, reader_out, step_out, read_out, verdict_out, writer_in, writer_out, written_out, offer_in}
+use Rattle.host.specs.Boundary.{place_in, reader_in, reader_out, step_out, read_out, verdict_out, writer_in, writer_out, offer_in}
 use Rattle.host.specs.declared.StandState.{StandState}
 use Rattle.host.specs.declared.ReaderState.{ReaderState}
 use Rattle.host.specs.declared.WriterState.{WriterState}
 use Rattle.host.specs.declared.ReadState.{ReadState}
 use Rattle.host.specs.declared.StepState.{StepState}
 use Rattle.host.specs.declared.OfferState.{OfferState}
-use Rattle.host.specs.declared.WrittenState.{WrittenState}
 use Rattle.host.specs.declared.VerdictState.{VerdictState}
 
 -- ## Readers
@@ -37,7 +38,7 @@ pub record Read : Type 0 where
 unfoldable pub read_by : ReaderState → List ℕ → List ℕ → Read
 read_by s piece table =
     let x = read_for (reader_in s) piece table in
-    record { reader = reader_out x.answer.reader; answer = read_out x.answer.taken x.answer.count x.answer.said; table = x.table }
+    record { reader = reader_out x.answer.reader; answer = read_out x.answer.taken x.answer.count x.answer.ended; table = x.table }
 
 -- the verdict so far, of a reader and of a writer
 unfoldable pub verdict_for : StandState → VerdictState
@@ -60,10 +61,10 @@ buffer_for w s buffer = pick (ltb s.kind 9) (buffer_of w (offer_in s) buffer) bu
 -- one record
 pub record Put : Type 0 where
   pub writer : WriterState
-  pub answer : WrittenState
+  pub answer : WroteNumbers
   pub buffer : List ℕ
 
 unfoldable pub put_by : WriterState → OfferState → List ℕ → Put
 put_by s offer buffer =
     let x = written_for (writer_in s.stand) offer (length buffer) in
-    record { writer = record { stand = writer_out x.writer }; answer = written_out x.answer; buffer = buffer_for (writer_in s.stand) offer buffer }
+    record { writer = record { stand = writer_out x.writer }; answer = wrote_numbers x.answer; buffer = buffer_for (writer_in s.stand) offer buffer }

@@ -5,13 +5,13 @@ use Rattle.words.specs.Le.{Bytes, long}
 use Rattle.layout.specs.Layout.{Each}
 use Rattle.layout.specs.Scan.{scan, found_in, IsAccepted}
 use Rattle.rules.specs.declared.Record.{Record}
-use Rattle.reader.specs.Stream.{tag_in, fresh, no_record}
+use Rattle.reader.specs.Stream.{tag_in, fresh}
 use Rattle.reader.specs.Readings.{Begun, reader_of, looked_at}
 use Rattle.reader.specs.Showings.{rows_in, rests_of}
 use Rattle.writer.specs.Offers.{InRange, offer_of}
 use Rattle.writer.specs.Write as write
 use Rattle.writer.specs.Writings as writings
-use Rattle.host.specs.Boundary.{record_out, reader_in, reader_out, verdict_out, writer_out, offer_in, offer_for}
+use Rattle.host.specs.Boundary.{record_out, no_record, reader_in, reader_out, verdict_out, writer_out, offer_in, offer_for}
 use Rattle.host.specs.Calls.{step_by, read_by, put_by, verdict_for}
 use Rattle.host.specs.declared.RecordState.{RecordState}
 use Rattle.host.specs.declared.StepState.{StepState}
@@ -104,7 +104,7 @@ pub record OnClaim (s : ReaderState) : Type 0 where
       → Refusing (read_by s piece table).reader.stand (read_by s piece table).answer.number (read_by s piece table).answer.at
   -- and one that holds a refusal says it again, whatever it is lent, and nothing changes
   pub step_again : (number at : ℕ) → Refusing s.stand number at → (piece : List ℕ)
-      → step_by s piece ≡ record { reader = s; answer = record { found = record_out no_record; taken = 0; at = at; said = 2; number = number } }
+      → step_by s piece ≡ record { reader = s; answer = record { found = no_record; taken = 0; at = at; said = 2; number = number } }
   pub read_again : (number at : ℕ) → Refusing s.stand number at → (piece table : List ℕ)
       → read_by s piece table ≡ record { reader = s; answer = record { taken = 0; count = 0; at = at; said = 2; number = number }; table = table }
   pub verdict_again : (number at : ℕ) → Refusing s.stand number at → ((verdict_for s.stand).number ≡ number) × ((verdict_for s.stand).at ≡ at)

@@ -5,15 +5,15 @@
 use rules::Totals;
 
 mod places;
-pub mod readers;
-pub mod records;
-pub mod writers;
+mod readers;
+mod records;
+mod writers;
 
 // What is due, by number: 1 header, 2 file head, 3 segment, 4 verification, 5 metadata, 6 xorb head, 7 chunk, 9 footer, 10 nothing more, 11 a refusal, of which
 // `left` is the number. So a record's number is its row in the paper's table, from 1. No other number is given out, and no refusal with number 0: a state that has
 // one, such as a struct of zeros, is of other making and is refused with 255.
 #[repr(C)]
-#[derive(Clone, Copy)]
+#[derive(Clone, Copy, Debug, PartialEq, Eq)]
 pub struct DueState {
     pub sum: u64,
     pub total: u64,
@@ -23,7 +23,7 @@ pub struct DueState {
 
 // A place in the format. There is a footer unless `footer` is 0. Of a reader, `have` is how many bytes its carry has; of a writer it is 0.
 #[repr(C)]
-#[derive(Clone, Copy)]
+#[derive(Clone, Copy, Debug, PartialEq, Eq)]
 pub struct PlaceState {
     pub at: u64,
     pub offset: u64,
@@ -37,7 +37,7 @@ pub struct PlaceState {
 
 // Where a reader or a writer stands: the tag, and the place.
 #[repr(C)]
-#[derive(Clone, Copy)]
+#[derive(Clone, Copy, Debug, PartialEq, Eq)]
 pub struct StandState {
     pub tag: [u64; 4],
     pub place: PlaceState,
@@ -45,7 +45,7 @@ pub struct StandState {
 
 // A reader between two calls: where it stands, and its carry.
 #[repr(C)]
-#[derive(Clone, Copy)]
+#[derive(Clone, Copy, Debug, PartialEq, Eq)]
 pub struct ReaderState {
     pub stand: StandState,
     pub carry: [u8; 200],
@@ -53,14 +53,14 @@ pub struct ReaderState {
 
 // A writer between two calls.
 #[repr(C)]
-#[derive(Clone, Copy)]
+#[derive(Clone, Copy, Debug, PartialEq, Eq)]
 pub struct WriterState {
     pub stand: StandState,
 }
 
 // A record that was read. Its kind is its row in the paper's table, from 0.
 #[repr(C)]
-#[derive(Clone, Copy)]
+#[derive(Clone, Copy, Debug, PartialEq, Eq)]
 pub struct RecordState {
     pub hash: [u64; 4],
     pub at: u64,
@@ -74,7 +74,7 @@ pub struct RecordState {
 
 // A verdict. Number 0 is an accepted shard.
 #[repr(C)]
-#[derive(Clone, Copy)]
+#[derive(Clone, Copy, Debug, PartialEq, Eq)]
 pub struct VerdictState {
     pub length: u64,
     pub totals: Totals,
@@ -85,7 +85,7 @@ pub struct VerdictState {
 
 // What a call of the reader answers. `said` is 0 for nothing yet, 1 for a record, 2 for a refusal.
 #[repr(C)]
-#[derive(Clone, Copy)]
+#[derive(Clone, Copy, Debug, PartialEq, Eq)]
 pub struct StepState {
     pub found: RecordState,
     pub taken: u64,
@@ -96,7 +96,7 @@ pub struct StepState {
 
 // A record as it is offered, its kind by the paper's row: x is a header's footer size or a footer's created, y a footer's expiry.
 #[repr(C)]
-#[derive(Clone, Copy)]
+#[derive(Clone, Copy, Debug, PartialEq, Eq)]
 pub struct OfferState {
     pub hash: [u64; 4],
     pub x: u64,
@@ -108,18 +108,9 @@ pub struct OfferState {
     pub d: u32,
 }
 
-// What a call of the writer answers: so many bytes were written, or 0 and the refusal.
-#[repr(C)]
-#[derive(Clone, Copy)]
-pub struct WrittenState {
-    pub wrote: u64,
-    pub at: u64,
-    pub number: u32,
-}
-
 // What reading a whole piece answers: the bytes taken, the rows filled, and what was said last.
 #[repr(C)]
-#[derive(Clone, Copy)]
+#[derive(Clone, Copy, Debug, PartialEq, Eq)]
 pub struct ReadState {
     pub taken: u64,
     pub count: u64,
@@ -130,26 +121,11 @@ pub struct ReadState {
 
 // A hash.
 #[repr(C)]
-#[derive(Clone, Copy)]
+#[derive(Clone, Copy, Debug, PartialEq, Eq)]
 pub struct HashState {
     pub numbers: [u64; 4],
 }
 
-// What a call gives: where the reader or the writer stands after it, and the answer.
-#[derive(Clone, Copy)]
-pub struct StepOut {
-    pub stand: StandState,
-    pub answer: StepState,
-}
-
-#[derive(Clone, Copy)]
-pub struct ReadOut {
-    pub stand: StandState,
-    pub answer: ReadState,
-}
-
-#[derive(Clone, Copy)]
-pub struct PutOut {
-    pub stand: StandState,
-    pub answer: WrittenState,
-}
+// A kind of an offer that is no row of the paper's table.
+#[derive(Clone, Copy, Debug, PartialEq, Eq)]
+pub struct UnknownKind(pub u32);

@@ -1,110 +1,105 @@
 // Places, as numbers and back.
 ghost use Rattle.std.specs.Prelude.{◌≡◌};
-ghost use Rattle.host.specs.Boundary.{yes, mark, number_in, due_in, due_out, place_in, place_out};
+ghost use Rattle.host.specs.Boundary.{due_in, due_out, place_in, place_out};
 
 use crate::{DueState, PlaceState};
 use rules::{Due, Place};
 use words::{Position, Refusal};
 
-// A number is true unless it is 0.
-fn is_set(n: u32) -> bool
-    ensures { result ≡ yes n }
-{
-    n != 0
-}
+// No refusal that is given out has number 0.
+impl From<DueState> for Due {
+    ghost from_gives = { λ state due. due ≡ due_in state };
 
-pub(crate) fn mark_of(b: bool) -> u32
-    ensures { result ≡ mark b }
-{
-    if b { 1 } else { 0 }
-}
-
-// The number of a refusal. None that is given out is 0.
-fn number_in(left: u32) -> u32
-    ensures { result ≡ number_in left }
-{
-    if left == 0 { Refusal::STATE } else { left }
-}
-
-fn due_in(s: DueState) -> Due
-    ensures { result ≡ due_in s }
-{
-    let code = s.code;
-    let left = s.left;
-    match code {
-        1 => Due::Header,
-        2 => Due::FileHead,
-        3 => Due::Segment(left),
-        4 => Due::Verification(left),
-        5 => Due::Metadata,
-        6 => Due::XorbHead,
-        7 => Due::Chunk(left, s.sum, s.total),
-        9 => Due::Footer,
-        10 => Due::End,
-        11 => Due::Refused(number_in(left)),
-        _ => Due::Refused(Refusal::STATE),
+    fn from(state: DueState) -> Due {
+        let left = state.left;
+        match state.code {
+            1 => Due::Header,
+            2 => Due::FileHead,
+            3 => Due::Segment(left),
+            4 => Due::Verification(left),
+            5 => Due::Metadata,
+            6 => Due::XorbHead,
+            7 => Due::Chunk(left, state.sum, state.total),
+            9 => Due::Footer,
+            10 => Due::End,
+            11 if left != 0 => Due::Refused(left),
+            _ => Due::Refused(Refusal::STATE),
+        }
     }
 }
 
-fn due_numbers(code: u32, left: u32, sum: u64, total: u64) -> DueState
-    ensures { result ≡ record { sum = sum; total = total; code = code; left = left } }
-{
-    DueState {
-        sum,
-        total,
-        code,
-        left,
+impl From<Due> for DueState {
+    ghost from_gives = { λ due state. state ≡ due_out due };
+
+    fn from(due: Due) -> DueState {
+        let none = DueState {
+            sum: 0,
+            total: 0,
+            code: 0,
+            left: 0,
+        };
+        match due {
+            Due::Header => DueState { code: 1, ..none },
+            Due::FileHead => DueState { code: 2, ..none },
+            Due::Segment(left) => DueState {
+                code: 3,
+                left,
+                ..none
+            },
+            Due::Verification(left) => DueState {
+                code: 4,
+                left,
+                ..none
+            },
+            Due::Metadata => DueState { code: 5, ..none },
+            Due::XorbHead => DueState { code: 6, ..none },
+            Due::Chunk(left, sum, total) => DueState {
+                sum,
+                total,
+                code: 7,
+                left,
+            },
+            Due::Footer => DueState { code: 9, ..none },
+            Due::End => DueState { code: 10, ..none },
+            Due::Refused(number) => DueState {
+                code: 11,
+                left: number,
+                ..none
+            },
+        }
     }
 }
 
-fn due_out(d: Due) -> DueState
-    ensures { result ≡ due_out d }
-{
-    match d {
-        Due::Header => due_numbers(1, 0, 0, 0),
-        Due::FileHead => due_numbers(2, 0, 0, 0),
-        Due::Segment(left) => due_numbers(3, left, 0, 0),
-        Due::Verification(left) => due_numbers(4, left, 0, 0),
-        Due::Metadata => due_numbers(5, 0, 0, 0),
-        Due::XorbHead => due_numbers(6, 0, 0, 0),
-        Due::Chunk(left, sum, total) => due_numbers(7, left, sum, total),
-        Due::Footer => due_numbers(9, 0, 0, 0),
-        Due::End => due_numbers(10, 0, 0, 0),
-        Due::Refused(number) => due_numbers(11, number, 0, 0),
+impl From<PlaceState> for Place {
+    ghost from_gives = { λ state place. place ≡ place_in state };
+
+    fn from(state: PlaceState) -> Place {
+        Place {
+            at: Position(state.at),
+            offset: Position(state.offset),
+            totals: state.totals,
+            flags: state.flags,
+            entries: state.entries,
+            footer: state.footer != 0,
+            due: Due::from(state.due),
+        }
     }
 }
 
-pub(crate) fn place_in(s: PlaceState) -> Place
-    ensures { result ≡ place_in s }
-{
-    let totals = s.totals;
-    let due = s.due;
-    Place {
-        at: Position(s.at),
-        offset: Position(s.offset),
-        totals: totals,
-        flags: s.flags,
-        entries: s.entries,
-        footer: is_set(s.footer),
-        due: due_in(due),
-    }
-}
+// With nothing carried.
+impl From<Place> for PlaceState {
+    ghost from_gives = { λ place state. state ≡ place_out place 0 };
 
-pub(crate) fn place_out(p: Place, have: u32) -> PlaceState
-    ensures { result ≡ place_out p have }
-{
-    let at = p.at;
-    let offset = p.offset;
-    let totals = p.totals;
-    let due = p.due;
-    PlaceState {
-        at: at.0,
-        offset: offset.0,
-        totals: totals,
-        due: due_out(due),
-        flags: p.flags,
-        entries: p.entries,
-        footer: mark_of(p.footer),
-        have: have,
+    fn from(place: Place) -> PlaceState {
+        PlaceState {
+            at: place.at.0,
+            offset: place.offset.0,
+            totals: place.totals,
+            due: DueState::from(place.due),
+            flags: place.flags,
+            entries: place.entries,
+            footer: u32::from(place.footer),
+            have: 0,
+        }
     }
 }

@@ -5,109 +5,130 @@ ghost use Rattle.reader.specs.Stream.{fresh};
 ghost use Rattle.host.specs.Boundary.{stand_in, reader_out, stand_out, step_out, read_out};
 ghost use Rattle.host.specs.Calls.{step_by, read_by};
 
-use crate::places::{place_in, place_out};
-use crate::records::record_out;
-use crate::{ReadOut, ReadState, ReaderState, StandState, StepOut, StepState};
-use reader::{Answer, Read, Reader, Stand};
+use crate::{PlaceState, ReadState, ReaderState, RecordState, StandState, StepState};
+use reader::{Answer, Ended, Read, Reader, Stand};
+use rules::Place;
 use words::Tag;
 use words::number::low_half;
 
-fn stand_in(s: StandState) -> Stand
-    ensures { result ≡ stand_in s }
-{
-    let tag = s.tag;
-    let place = s.place;
-    Stand {
-        have: place.have as usize,
-        tag: Tag(tag),
-        place: place_in(place),
+impl From<StandState> for Stand {
+    ghost from_gives = { λ state stand. stand ≡ stand_in state };
+
+    fn from(state: StandState) -> Stand {
+        let four = state.tag;
+        Stand {
+            have: state.place.have as usize,
+            tag: Tag(four),
+            place: Place::from(state.place),
+        }
     }
 }
 
-fn stand_out(s: Stand) -> StandState
-    ensures { result ≡ stand_out s }
-{
-    let tag = s.tag;
-    let four = tag.0;
-    let place = s.place;
-    StandState {
-        tag: four,
-        place: place_out(place, low_half(s.have as u64)),
+impl From<Stand> for StandState {
+    ghost from_gives = { λ stand state. state ≡ stand_out stand };
+
+    fn from(stand: Stand) -> StandState {
+        let tag = stand.tag.0;
+        let place = PlaceState::from(stand.place);
+        StandState {
+            tag,
+            place: PlaceState {
+                have: low_half(stand.have as u64),
+                ..place
+            },
+        }
     }
 }
 
-fn step_out(a: Answer) -> StepState
-    ensures { result ≡ step_out a }
-{
-    let found = a.found;
-    let said = a.said;
-    let refusal = said.refusal();
-    let at = refusal.at;
-    StepState {
-        found: record_out(found),
-        taken: a.taken as u64,
-        at: at.0,
-        said: said.number(),
-        number: refusal.number,
+impl From<Reader> for ReaderState {
+    ghost from_gives = { λ reader state. state ≡ reader_out reader };
+
+    fn from(reader: Reader) -> ReaderState {
+        let carry = reader.carry;
+        ReaderState {
+            stand: StandState::from(reader.stand),
+            carry,
+        }
     }
 }
 
-fn read_out(x: Read) -> ReadState
-    ensures { result ≡ read_out x.taken x.count x.said }
-{
-    let said = x.said;
-    let refusal = said.refusal();
-    let at = refusal.at;
-    ReadState {
-        taken: x.taken as u64,
-        count: x.count as u64,
-        at: at.0,
-        said: said.number(),
-        number: refusal.number,
+impl From<Answer> for StepState {
+    ghost from_gives = { λ answer state. state ≡ step_out answer };
+
+    fn from(answer: Answer) -> StepState {
+        let nothing = StepState {
+            found: RecordState::NONE,
+            taken: answer.taken as u64,
+            at: 0,
+            said: 0,
+            number: 0,
+        };
+        match answer.found {
+            Ok(None) => nothing,
+            Ok(Some(found)) => StepState {
+                found: RecordState::from(found),
+                said: 1,
+                ..nothing
+            },
+            Err(refusal) => StepState {
+                at: refusal.at.0,
+                said: 2,
+                number: refusal.number,
+                ..nothing
+            },
+        }
     }
 }
 
-// A fresh reader.
-pub fn new_for(tag: &[u8]) -> ReaderState
-    ensures { result ≡ reader_out (fresh tag.now) }
-{
-    let reader = Reader::new(tag);
-    let stand = reader.stand;
-    let carry = reader.carry;
-    ReaderState {
-        stand: stand_out(stand),
-        carry: carry,
+impl From<Read> for ReadState {
+    ghost from_gives = { λ read state. state ≡ read_out read.taken read.count read.ended };
+
+    fn from(read: Read) -> ReadState {
+        let used = ReadState {
+            taken: read.taken as u64,
+            count: read.count as u64,
+            at: 0,
+            said: 0,
+            number: 0,
+        };
+        match read.ended {
+            Ok(Ended::PieceUsed) => used,
+            Ok(Ended::TableFull) => ReadState { said: 1, ..used },
+            Err(refusal) => ReadState {
+                at: refusal.at.0,
+                said: 2,
+                number: refusal.number,
+                ..used
+            },
+        }
     }
 }
 
-// One call.
-pub fn step_for(stand: StandState, carry: &mut [u8; 200], piece: &[u8]) -> StepOut
-    ensures { (result ≡ record { stand = (step_by (record { stand = stand; carry = carry.old }) piece.now).reader.stand; answer = (step_by (record { stand = stand; carry = carry.old }) piece.now).answer }) × (carry.new ≡ (step_by (record { stand = stand; carry = carry.old }) piece.now).reader.carry) }
-{
-    let at = stand_in(stand);
-    let call = at.step(carry, piece);
-    let next = call.stand;
-    let answer = call.answer;
-    StepOut {
-        stand: stand_out(next),
-        answer: step_out(answer),
+impl ReaderState {
+    // A fresh reader.
+    pub fn new(tag: &[u8]) -> ReaderState
+        ensures { result ≡ reader_out (fresh tag.now) }
+    {
+        ReaderState::from(Reader::new(tag))
     }
-}
 
-// A whole piece.
-pub fn read_for(
-    stand: StandState,
-    carry: &mut [u8; 200],
-    piece: &[u8],
-    table: &mut [u64],
-) -> ReadOut
-    ensures { (result ≡ record { stand = (read_by (record { stand = stand; carry = carry.old }) piece.now table.old).reader.stand; answer = (read_by (record { stand = stand; carry = carry.old }) piece.now table.old).answer }) × (carry.new ≡ (read_by (record { stand = stand; carry = carry.old }) piece.now table.old).reader.carry) × (table.new ≡ (read_by (record { stand = stand; carry = carry.old }) piece.now table.old).table) }
-{
-    let at = stand_in(stand);
-    let read = at.read(carry, piece, table);
-    let next = read.stand;
-    ReadOut {
-        stand: stand_out(next),
-        answer: read_out(read),
+    // One call.
+    #[tactic(auto, unfolding(crate::specs::Calls::step_by))]
+    pub fn step(&mut self, piece: &[u8]) -> StepState
+        ensures { (result ≡ (step_by self.old piece.now).answer) × (self.new ≡ (step_by self.old piece.now).reader) }
+    {
+        let call = Stand::from(self.stand).step(&mut self.carry, piece);
+        self.stand = StandState::from(call.stand);
+        StepState::from(call.answer)
+    }
+
+    // A whole piece.
+    #[tactic(auto, unfolding(crate::specs::Calls::read_by))]
+    pub fn read(&mut self, piece: &[u8], table: &mut [u64]) -> ReadState
+        ensures { (result ≡ (read_by self.old piece.now table.old).answer) × (self.new ≡ (read_by self.old piece.now table.old).reader) × (table.new ≡ (read_by self.old piece.now table.old).table) }
+    {
+        let read = Stand::from(self.stand).read(&mut self.carry, piece, table);
+        self.stand = StandState::from(read.stand);
+        ReadState::from(read)
     }
 }

@@ -2,90 +2,71 @@
 // host calls.
 ghost use Rattle.std.specs.Prelude.{◌≡◌, length};
 ghost use Rattle.writer.specs.Write.{fresh};
-ghost use Rattle.host.specs.Boundary.{writer_in, writer_out, written_out};
-ghost use Rattle.host.specs.Calls.{unknown, written_for, buffer_for, put_by};
+ghost use Rattle.host.specs.Boundary.{writer_in, writer_out};
+ghost use Rattle.host.specs.Calls.{written_for, buffer_for, put_by};
 
-use crate::places::{place_in, place_out};
-use crate::records::offer_in;
-use crate::{OfferState, PutOut, StandState, WriterState, WrittenState};
-use words::Tag;
-use writer::{Answer, Writer, Written};
+use crate::{OfferState, PlaceState, StandState, WriterState};
+use rules::Place;
+use words::{Tag, WroteNumbers};
+use writer::{Offer, Writer, Written};
 
-fn writer_in(s: StandState) -> Writer
-    ensures { result ≡ writer_in s }
-{
-    let tag = s.tag;
-    let place = s.place;
-    Writer {
-        tag: Tag(tag),
-        place: place_in(place),
+impl From<StandState> for Writer {
+    ghost from_gives = { λ state writer. writer ≡ writer_in state };
+
+    fn from(state: StandState) -> Writer {
+        let four = state.tag;
+        Writer {
+            tag: Tag(four),
+            place: Place::from(state.place),
+        }
     }
 }
 
-fn writer_out(w: Writer) -> StandState
-    ensures { result ≡ writer_out w }
-{
-    let tag = w.tag;
-    let four = tag.0;
-    let place = w.place;
-    StandState {
-        tag: four,
-        place: place_out(place, 0),
-    }
-}
+impl From<Writer> for StandState {
+    ghost from_gives = { λ writer state. state ≡ writer_out writer };
 
-fn written_out(answer: Answer) -> WrittenState
-    ensures { result ≡ written_out answer }
-{
-    let refusal = answer.refusal();
-    let at = refusal.at;
-    WrittenState {
-        wrote: answer.wrote() as u64,
-        at: at.0,
-        number: refusal.number,
+    fn from(writer: Writer) -> StandState {
+        let tag = writer.tag.0;
+        StandState {
+            tag,
+            place: PlaceState::from(writer.place),
+        }
     }
 }
 
 // An offer of no known kind is refused as a record that is not due.
-fn not_known(w: Writer) -> Written
-    ensures { result ≡ unknown w }
+fn offered(writer: Writer, offer: OfferState, buf: &mut [u8]) -> Written
+    ensures { (result ≡ written_for writer offer (length buf.old)) × (buf.new ≡ buffer_for writer offer buf.old) }
 {
-    let place = w.place;
-    let due = place.due;
-    Written {
-        writer: w,
-        answer: Answer::Refused(place.refusal(due.not_due())),
+    match Offer::try_from(offer) {
+        Ok(known) => writer.put(known, buf),
+        Err(_) => {
+            let place = writer.place;
+            Written {
+                writer,
+                answer: Err(place.refusal(place.due.not_due())),
+            }
+        }
     }
 }
 
-fn offered(w: Writer, offer: OfferState, buf: &mut [u8]) -> Written
-    ensures { (result ≡ written_for w offer (length buf.old)) × (buf.new ≡ buffer_for w offer buf.old) }
-{
-    if offer.kind < 9 {
-        w.put(offer_in(offer), buf)
-    } else {
-        not_known(w)
+impl WriterState {
+    // A fresh writer.
+    pub fn new(tag: &[u8]) -> WriterState
+        ensures { result ≡ record { stand = writer_out (fresh tag.now) } }
+    {
+        WriterState {
+            stand: StandState::from(Writer::new(tag)),
+        }
     }
-}
 
-// A fresh writer.
-pub fn new_for(tag: &[u8]) -> WriterState
-    ensures { result ≡ record { stand = writer_out (fresh tag.now) } }
-{
-    WriterState {
-        stand: writer_out(Writer::new(tag)),
-    }
-}
-
-// One record.
-pub fn put_for(stand: StandState, offer: OfferState, buf: &mut [u8]) -> PutOut
-    ensures { (result ≡ record { stand = (put_by (record { stand = stand }) offer buf.old).writer.stand; answer = (put_by (record { stand = stand }) offer buf.old).answer }) × (buf.new ≡ (put_by (record { stand = stand }) offer buf.old).buffer) }
-{
-    let written = offered(writer_in(stand), offer, buf);
-    let next = written.writer;
-    let answer = written.answer;
-    PutOut {
-        stand: writer_out(next),
-        answer: written_out(answer),
+    // One record.
+    #[tactic(auto, unfolding(crate::specs::Calls::put_by))]
+    pub fn put(&mut self, offer: OfferState, buf: &mut [u8]) -> WroteNumbers
+        ensures { (result ≡ (put_by self.old offer buf.old).answer) × (self.new ≡ (put_by self.old offer buf.old).writer) × (buf.new ≡ (put_by self.old offer buf.old).buffer) }
+    {
+        let written = offered(Writer::from(self.stand), offer, buf);
+        self.stand = StandState::from(written.writer);
+        WroteNumbers::from(written.answer)
     }
 }

@@ -7,8 +7,6 @@ ghost use Rattle.reader.specs.Stream.{fresh};
 ghost use Rattle.host.specs.Boundary.{reader_out};
 ghost use Rattle.host.specs.Calls.{read_by, verdict_for};
 
-use host::readers::{new_for, read_for};
-use host::records::verdict_for;
 use host::{ReadState, ReaderState, VerdictState};
 
 // A fresh reader.
@@ -16,7 +14,7 @@ use host::{ReadState, ReaderState, VerdictState};
 pub extern "C" fn mdb_reader_new(tag: &[u8]) -> ReaderState
     ensures { result ≡ reader_out (fresh tag.now) }
 {
-    new_for(tag)
+    ReaderState::new(tag)
 }
 
 // A whole piece: calls of the reader until it is used up or refused or the table is full. Each record found fills a row of nine numbers.
@@ -28,10 +26,7 @@ pub extern "C" fn mdb_reader_read(
 ) -> ReadState
     ensures { (result ≡ (read_by reader.old piece.now table.old).answer) × (reader.new ≡ (read_by reader.old piece.now table.old).reader) × (table.new ≡ (read_by reader.old piece.now table.old).table) }
 {
-    let stand = reader.stand;
-    let out = read_for(stand, &mut reader.carry, piece, table);
-    reader.stand = out.stand;
-    out.answer
+    reader.read(piece, table)
 }
 
 // The reader's verdict so far.
@@ -39,6 +34,5 @@ pub extern "C" fn mdb_reader_read(
 pub extern "C" fn mdb_reader_verdict(reader: &ReaderState) -> VerdictState
     ensures { result ≡ verdict_for reader.now.stand }
 {
-    let stand = reader.stand;
-    verdict_for(stand)
+    reader.stand.verdict()
 }

@@ -4,7 +4,6 @@
 ghost use Rattle.std.specs.Prelude.{◌≡◌};
 ghost use Rattle.host.specs.Calls.{step_by};
 
-use host::readers::step_for;
 use host::{ReaderState, StepState};
 
 // One call of the reader.
@@ -12,8 +11,5 @@ use host::{ReaderState, StepState};
 pub extern "C" fn mdb_reader_step(reader: &mut ReaderState, piece: &[u8]) -> StepState
     ensures { (result ≡ (step_by reader.old piece.now).answer) × (reader.new ≡ (step_by reader.old piece.now).reader) }
 {
-    let stand = reader.stand;
-    let out = step_for(stand, &mut reader.carry, piece);
-    reader.stand = out.stand;
-    out.answer
+    reader.step(piece)
 }

@@ -7,16 +7,15 @@ ghost use Rattle.writer.specs.Write.{fresh};
 ghost use Rattle.host.specs.Boundary.{writer_out, offer_for};
 ghost use Rattle.host.specs.Calls.{put_by, verdict_for};
 
-use host::records::{offer_of, verdict_for};
-use host::writers::{new_for, put_for};
-use host::{OfferState, RecordState, VerdictState, WriterState, WrittenState};
+use host::{OfferState, RecordState, VerdictState, WriterState};
+use words::WroteNumbers;
 
 // A fresh writer.
 #[unsafe(no_mangle)]
 pub extern "C" fn mdb_writer_new(tag: &[u8]) -> WriterState
     ensures { result ≡ record { stand = writer_out (fresh tag.now) } }
 {
-    new_for(tag)
+    WriterState::new(tag)
 }
 
 // One record into the buffer, at its start.
@@ -25,13 +24,10 @@ pub extern "C" fn mdb_writer_put(
     writer: &mut WriterState,
     offer: OfferState,
     buf: &mut [u8],
-) -> WrittenState
+) -> WroteNumbers
     ensures { (result ≡ (put_by writer.old offer buf.old).answer) × (writer.new ≡ (put_by writer.old offer buf.old).writer) × (buf.new ≡ (put_by writer.old offer buf.old).buffer) }
 {
-    let stand = writer.stand;
-    let out = put_for(stand, offer, buf);
-    writer.stand = out.stand;
-    out.answer
+    writer.put(offer, buf)
 }
 
 // The writer's verdict so far.
@@ -39,8 +35,7 @@ pub extern "C" fn mdb_writer_put(
 pub extern "C" fn mdb_writer_verdict(writer: &WriterState) -> VerdictState
     ensures { result ≡ verdict_for writer.now.stand }
 {
-    let stand = writer.stand;
-    verdict_for(stand)
+    writer.stand.verdict()
 }
 
 // The offer that writes a record which was read.
@@ -48,5 +43,5 @@ pub extern "C" fn mdb_writer_verdict(writer: &WriterState) -> VerdictState
 pub extern "C" fn mdb_offer_of(found: RecordState) -> OfferState
     ensures { result ≡ offer_for found }
 {
-    offer_of(found)
+    OfferState::from(found)
 }

@@ -1,9 +1,9 @@
 -- The four checks: no number comes out exactly if all are passed, and bytes are answered only then, because each check gives a number that is not 0.
 -- Assumes nothing.
+use Rattle.std.specs.Prelude.{Ok, Err}
 use mathlib.Core.Path.{◌≡◌, refl}
 use mathlib.Core.Bool.{Bool, true, false, ◌||◌, not, true≢false}
 use Prim.Native.Nat.{ℕ, ◌≤◌}
-use native.Mathlib.Omega.{arith}
 use lib.Dec.{eqb, leb, lit<}
 use borrow.Author.Tests.{eqb-true, le-leb, leb-true, not-true}
 use Rattle.words.specs.Checks.{pick}
@@ -11,7 +11,6 @@ use Rattle.rules.specs.Rules.{limit, start}
 use Rattle.rules.specs.Verdicts.{refusal_at}
 use Rattle.words.proofs.Checks.{passed}
 use Rattle.join.specs.Join.{join_fault, answer_by}
-use Rattle.join.specs.declared.Joined.TheVariants.{Wrote, Refused}
 
 pub record Passed (footer agree : Bool) (size room : ℕ) : Type 0 where
   pub no_footer : footer ≡ false
@@ -39,12 +38,12 @@ second_same false a b size room h = rw (h refl)
 second_same true a b size room h = refl
 
 -- a number of bytes is answered only where no check has failed
-pub answer_wrote : (number size n : ℕ) → answer_by number size ≡ Wrote n → (number ≡ 0) × (size ≡ n)
+pub answer_wrote : (number size n : ℕ) → answer_by number size ≡ Ok n → (number ≡ 0) × (size ≡ n)
 answer_wrote number size n e = go (eqb number 0) refl e
   where
-    go : (t : Bool) → eqb number 0 ≡ t → pick t (Wrote size) (Refused (refusal_at number start)) ≡ Wrote n → (number ≡ 0) × (size ≡ n)
+    go : (t : Bool) → eqb number 0 ≡ t → pick t (Ok size) (Err (refusal_at number start)) ≡ Ok n → (number ≡ 0) × (size ≡ n)
     go true h e = (eqb-true _ _ h, cc)
-    go false h e = let z : ◌≡◌ {A = ℕ} 0 1 = cc in absurd (omega arith)
+    go false h e = absurd (cc)
 
 -- neither of two
 pub both_false : (x y : Bool) → (x || y) ≡ false → (x ≡ false) × (y ≡ false)

@@ -1,5 +1,5 @@
 -- Four copies, one behind the other, are the joined bytes, because each begins where the one before ended. Assumes nothing.
-use mathlib.Core.Path.{◌≡◌, ap, ◌∙◌}
+use mathlib.Core.Path.{◌≡◌, refl, ap, ◌∙◌}
 use mathlib.Core.List.{List, ◌++◌}
 use Prim.Native.Nat.{ℕ, ◌+◌, ◌-◌, ◌≤◌}
 use native.Mathlib.Omega.{arith}
@@ -34,14 +34,12 @@ module _ (first second : List ℕ) (x y : ℕ) (p : Parted first x) (q : Parted 
       let z : k ≡ 0 + k = omega arith in
       puts_then k l₀ 0 a b e f (g ∙ ap (λ (i : ℕ). puts l₁ i b) z)
 
-  pub four_copies : (l₀ : List ℕ) {l₁ l₂ l₃ l₄ : List ℕ}
-      → l₁ ≡ puts l₀ 0 (take (x - 48) (drop 0 first))
-      → l₂ ≡ puts l₁ (x - 48) (take (y - 48) (drop 48 second))
-      → l₃ ≡ puts l₂ (x - 48 + (y - 48)) (take (length first - 48 - x) (drop x first))
-      → l₄ ≡ puts l₃ (x - 48 + (y - 48) + (length first - 48 - x)) (take (length second - y) (drop y second))
+  pub four_copies : (l₀ : List ℕ) {l₁ l₂ l₃ l₄ : List ℕ} (a b c d : List ℕ)
+      → a ≡ take (x - 48) first → b ≡ part 48 y second → c ≡ part x (length first - 48) first → d ≡ part y (length second) second
+      → l₁ ≡ puts l₀ 0 a → l₂ ≡ puts l₁ (length a) b → l₃ ≡ puts l₂ (length a + length b) c → l₄ ≡ puts l₃ (length a + length b + length c) d
       → l₄ ≡ puts l₀ 0 (joined_at first x second y)
   unfolding joined_at
-  four_copies l₀ a b c d =
-      put_next l₀ _ (part y (length second) second) _ length_3
-      (put_next l₀ _ (part x (length first - 48) first) _ length_2
-      (put_next l₀ (take (x - 48) first) (part 48 y second) _ length_1 a b) c) d
+  four_copies l₀ a b c d ea eb ec ed f g h k =
+      let n : length (a ++ b) ≡ length a + length b = length-append a b in
+      let m : length (a ++ b ++ c) ≡ length a + length b + length c = length-append (a ++ b) c ∙ omega (arith, n) in
+      put_next l₀ (a ++ b ++ c) d _ m (put_next l₀ (a ++ b) c _ n (put_next l₀ a b _ refl f g) h) k ∙ rw (ea, eb, ec, ed)

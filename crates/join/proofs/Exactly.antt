@@ -1,4 +1,5 @@
 -- Bytes are written exactly if the trees can be joined and there is room, because the four checks are just that. Assumes nothing.
+use Rattle.std.specs.Prelude.{Ok}
 use mathlib.Core.Path.{◌≡◌, refl, sym, ◌∙◌, subst}
 use mathlib.Core.Bool.{false, ◌||◌, true≢false}
 use mathlib.Core.Option.{Option, none, some}
@@ -13,7 +14,6 @@ use Rattle.layout.proofs.Lists.{each_append}
 use Rattle.layout.proofs.Last.{Spelling}
 use Rattle.join.specs.Join.{first_flags, joined_length, join_fault, fault_for, answer_by, answer_for, join_of, joined_bytes}
 use Rattle.join.specs.Claims.{join_tree, Joins, firsts_agree, tree_fault, JoinsIn}
-use Rattle.join.specs.declared.Joined.TheVariants.{Wrote}
 use Rattle.join.proofs.Checks.{all_passed, no_fault, second_same, answer_wrote, both_false}
 use Rattle.join.proofs.Sections.{bytes_joined, length_both}
 use Rattle.join.proofs.Agreement.{SameFirst, agree_both, agree_firsts, test_firsts, firsts_test, test_agrees}
@@ -68,12 +68,12 @@ module _ (tag : List ℕ) (b : Bytes tag) (first second : List ℕ) (s t : Shard
   unfolding join_of answer_for
   answer_is room = rw (o.found, p.found, fault_same (joined_length first second) room, o.size, p.size)
 
-  pub written : (room n : ℕ) → join_of tag first second room ≡ Wrote n → JoinsIn s t room n
+  pub written : (room n : ℕ) → join_of tag first second room ≡ Ok n → JoinsIn s t room n
   written room n e =
       let (z, l) = answer_wrote (tree_fault s t room) (length_of s + length_of t - 144) n (sym (answer_is room) ∙ e) in
       subst (JoinsIn s t room) l (passed_joins s t room z o.spells.sound p.spells.sound)
 
-  pub writes : (room n : ℕ) → JoinsIn s t room n → join_of tag first second room ≡ Wrote n
+  pub writes : (room n : ℕ) → JoinsIn s t room n → join_of tag first second room ≡ Ok n
   writes room n w =
       let l : length_of s + length_of t - 144 ≡ n = omega (arith, w.long, length_both s t w.joins.first w.joins.second) in
       answer_is room ∙ rw (joins_passed s t room n w, l)

@@ -48,8 +48,8 @@ spelled_both tag (s ∷ ss) ts (x ∷ xs) ys (h, e, a) b = (h, e, spelled_both t
 both_there : (m n : Option (List ℕ)) (call : List ℕ → List ℕ → Option (List ℕ)) (bytes : List ℕ) → with_both m n call ≡ some bytes
     → (first : List ℕ) × (second : List ℕ) × (m ≡ some first) × (n ≡ some second) × (call first second ≡ some bytes)
 both_there (some first) (some second) call bytes e = (first, second, refl, refl, e)
-both_there (some first) none call bytes e = let z : ◌≡◌ {A = ℕ} 0 1 = cc in absurd (omega arith)
-both_there none n call bytes e = let z : ◌≡◌ {A = ℕ} 0 1 = cc in absurd (omega arith)
+both_there (some first) none call bytes e = absurd (cc)
+both_there none n call bytes e = absurd (cc)
 
 module _ (tag : List ℕ) (n32 : length tag ≡ 32) (b : Bytes tag) where
   two_come : (g h : Group) (buffer bytes : List ℕ) → comes_to tag (both g h buffer) ≡ some bytes

@@ -1,4 +1,6 @@
 -- What a call leaves in the buffer, by the two trees, because its result is the joined bytes. Assumes nothing.
+use Rattle.std.specs.Prelude.{Result, Ok, Err}
+use Rattle.words.specs.declared.Refusal.{Refusal}
 use mathlib.Core.Path.{◌≡◌, refl, sym, ap, ◌∙◌, subst}
 use mathlib.Core.Option.{none, some}
 use mathlib.Core.List.{List}
@@ -9,16 +11,13 @@ use lib.Seq.{take_at}
 use Rattle.words.specs.Le.{Bytes}
 use Rattle.rules.specs.Rules.{same31}
 use Rattle.rules.specs.declared.Summary.{Summary}
-use Rattle.rules.specs.declared.Verdict.{Verdict}
-use Rattle.rules.specs.declared.Verdict.TheVariants as verdict
+use Rattle.rules.specs.Verdicts.{Verdict}
 use Rattle.layout.specs.Layout.{Shard, has, length_of}
 use Rattle.layout.specs.Claim.{summary_for}
 use Rattle.layout.specs.Scan.{Found, found_in, IsAccepted, if_accepted}
 use Rattle.layout.proofs.Last.{Spelling, spelling, tree_of}
 use Rattle.join.specs.Join.{joined_bytes, joined_length, first_flags, fault_for, answer_for, join_of, buffer_of}
 use Rattle.join.specs.Claims.{join_tree, result_by, result_of, Joins, JoinsIn, Joinable}
-use Rattle.join.specs.declared.Joined.{Joined}
-use Rattle.join.specs.declared.Joined.TheVariants.{Wrote, Refused}
 use Rattle.join.proofs.Checks.{all_passed, answer_wrote, both_false}
 use Rattle.join.proofs.Exactly.{has_none, written, writes, spells_both}
 
@@ -29,16 +28,16 @@ joinable_of tag bytes s o e = record { summary = summary_for s; accepted = ap (�
 
 -- something is written only of two such shards
 both_by : (tag first second : List ℕ) (room size : ℕ) (v w : Verdict) → (found_in tag first).verdict ≡ v → (found_in tag second).verdict ≡ w
-    → if_accepted Refused v (λ s. if_accepted Refused w (λ t. answer_for s t first second room)) ≡ Wrote size → Joinable tag first × Joinable tag second
+    → if_accepted Err v (λ s. if_accepted Err w (λ t. answer_for s t first second room)) ≡ Ok size → Joinable tag first × Joinable tag second
 unfolding answer_for
-both_by tag first second room size (verdict.Accepted s) (verdict.Accepted t) ev ew e =
+both_by tag first second room size (Ok s) (Ok t) ev ew e =
     let (z, l) = answer_wrote (fault_for s t (same31 (first_flags first) (first_flags second)) (joined_length first second) room) (joined_length first second) size e in
     let (es, et) = both_false s.footer t.footer (all_passed _ _ _ _ z).no_footer in
     (record { summary = s; accepted = ev; footer = es }, record { summary = t; accepted = ew; footer = et })
-both_by tag first second room size (verdict.Accepted s) (verdict.Refused r) ev ew e = let z : ◌≡◌ {A = ℕ} 0 1 = cc in absurd (omega arith)
-both_by tag first second room size (verdict.Refused r) w ev ew e = let z : ◌≡◌ {A = ℕ} 0 1 = cc in absurd (omega arith)
+both_by tag first second room size (Ok s) (Err r) ev ew e = absurd (cc)
+both_by tag first second room size (Err r) w ev ew e = absurd (cc)
 
-pub both_joinable : (tag first second : List ℕ) (room size : ℕ) → join_of tag first second room ≡ Wrote size → Joinable tag first × Joinable tag second
+pub both_joinable : (tag first second : List ℕ) (room size : ℕ) → join_of tag first second room ≡ Ok size → Joinable tag first × Joinable tag second
 unfolding join_of
 both_joinable tag first second room size e = both_by tag first second room size (found_in tag first).verdict (found_in tag second).verdict refl refl e
 
@@ -55,14 +54,14 @@ module _ (tag : List ℕ) (n32 : length tag ≡ 32) (b : Bytes tag) where
   pub joinable_tree : (bytes : List ℕ) → Bytes bytes → Joinable tag bytes → (s : Shard) × Spelling tag bytes s × (s.footer ≡ none)
   joinable_tree bytes y a =
       let (s, o) = tree_of tag n32 b bytes y (subst IsAccepted (sym a.accepted) tt) in
-      let e : verdict.Accepted a.summary ≡ verdict.Accepted (summary_for s) = sym a.accepted ∙ ap (λ (f : Found). f.verdict) o.found in
+      let e : Ok a.summary ≡ Ok (summary_for s) = sym a.accepted ∙ ap (λ (f : Found). f.verdict) o.found in
       let f : a.summary ≡ summary_for s = cc in
       (s, o, has_none s.footer (sym (ap (λ (x : Summary). x.footer) f) ∙ a.footer))
 
   pub result_spelling : (first second : List ℕ) (s t : Shard) → Spelling tag first s → Spelling tag second t → Joins s t → Spelling tag (joined_bytes tag first second) (join_tree s t)
   result_spelling first second s t o p f = spelling tag n32 b (joined_bytes tag first second) (join_tree s t) (spells_both tag b first second s t o p f)
 
-  pub trees : (first second : List ℕ) (room size : ℕ) → Bytes first → Bytes second → join_of tag first second room ≡ Wrote size → Trees tag first second room size
+  pub trees : (first second : List ℕ) (room size : ℕ) → Bytes first → Bytes second → join_of tag first second room ≡ Ok size → Trees tag first second room size
   trees first second room size y1 y2 e =
       let (a1, a2) = both_joinable tag first second room size e in
       let (s, o, es) = joinable_tree first y1 a1 in
@@ -83,11 +82,11 @@ module _ (tag : List ℕ) (n32 : length tag ≡ 32) (b : Bytes tag) where
       (ap some (take_at (joined_bytes tag first second) (drop (length_of (join_tree s t)) buffer) (length_of (join_tree s t)) (length_result first second s t o p (length buffer) (length_of (join_tree s t)) w)))
 
   -- a shard in the buffer was written
-  wrote_by : (a : Joined) (buffer result : List ℕ) → result_by a buffer ≡ some result → (n : ℕ) × (a ≡ Wrote n)
-  wrote_by (Wrote n) buffer result e = (n, refl)
-  wrote_by (Refused r) buffer result e = let z : ◌≡◌ {A = ℕ} 0 1 = cc in absurd (omega arith)
+  wrote_by : (a : Result ℕ Refusal) (buffer result : List ℕ) → result_by a buffer ≡ some result → (n : ℕ) × (a ≡ Ok n)
+  wrote_by (Ok n) buffer result e = (n, refl)
+  wrote_by (Err r) buffer result e = absurd (cc)
 
-  was_written : (first second buffer result : List ℕ) → result_of tag first second buffer ≡ some result → (n : ℕ) × (join_of tag first second (length buffer) ≡ Wrote n)
+  was_written : (first second buffer result : List ℕ) → result_of tag first second buffer ≡ some result → (n : ℕ) × (join_of tag first second (length buffer) ≡ Ok n)
   unfolding result_of
   was_written first second buffer result e = wrote_by (join_of tag first second (length buffer)) (buffer_of tag first second buffer) result e
 

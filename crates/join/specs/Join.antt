@@ -1,5 +1,6 @@
 -- JOINING TWO SHARDS: the answer, and each byte of the lent buffer; for any tag, any bytes and any buffer.
-use Rattle.std.specs.Prelude.{ℕ, ◌+◌, ◌-◌, ◌≤◌, List, ◌++◌, Bool, ◌||◌, not, eqb, leb, length, take, drop}
+use Rattle.std.specs.Prelude.{ℕ, ◌+◌, ◌-◌, ◌≤◌, List, ◌++◌, Bool, ◌||◌, not, eqb, leb, length, take, drop, Result, Ok, Err}
+use Rattle.words.specs.declared.Refusal.{Refusal}
 use Rattle.words.specs.Checks.{pick, fine, ◌unless◌then◌}
 use Rattle.words.specs.Le.{le_at, part}
 use Rattle.rules.specs.Rules.{limit, same31, start}
@@ -7,9 +8,6 @@ use Rattle.rules.specs.Verdicts.{refusal_at}
 use Rattle.rules.specs.declared.Summary.{Summary}
 use Rattle.layout.specs.Scan.{found_in, if_accepted}
 use Rattle.layout.specs.Reach.{last_place}
-use Rattle.join.specs.declared.Joined.{Joined}
-use Rattle.join.specs.declared.Joined.TheVariants.{Wrote, Refused}
-use Rattle.join.specs.declared.JoinedNumbers.{JoinedNumbers}
 
 -- ## The joined bytes
 
@@ -63,29 +61,24 @@ abbrev pub fault_for : Summary → Summary → Bool → ℕ → ℕ → ℕ
 fault_for s t same size room = join_fault (s.footer || t.footer) (agree_by s.totals.files t.totals.files same) size room
 
 -- these four are refused at 0
-abbrev pub answer_by : ℕ → ℕ → Joined
-answer_by number size = pick (eqb number 0) (Wrote size) (Refused (refusal_at number start))
+abbrev pub answer_by : ℕ → ℕ → Result ℕ Refusal
+answer_by number size = pick (eqb number 0) (Ok size) (Err (refusal_at number start))
 
 -- what is answered to two accepted shards
-unfoldable pub answer_for : Summary → Summary → List ℕ → List ℕ → ℕ → Joined
+unfoldable pub answer_for : Summary → Summary → List ℕ → List ℕ → ℕ → Result ℕ Refusal
 answer_for s t first second room =
     answer_by (fault_for s t (same31 (first_flags first) (first_flags second)) (joined_length first second) room) (joined_length first second)
 
 -- the first shard's refusal, the second's, one of the four, or how many bytes were written
-unfoldable pub join_of : List ℕ → List ℕ → List ℕ → ℕ → Joined
-join_of tag first second room = if_accepted Refused (found_in tag first).verdict (λ s. if_accepted Refused (found_in tag second).verdict (λ t. answer_for s t first second room))
-
--- the paper's numbers for each case: so many bytes, or the refusal
-abbrev pub joined_numbers : Joined → JoinedNumbers
-joined_numbers (Wrote size) = record { wrote = size; at = 0; number = 0 }
-joined_numbers (Refused refusal) = record { wrote = 0; at = refusal.at.0; number = refusal.number }
+unfoldable pub join_of : List ℕ → List ℕ → List ℕ → ℕ → Result ℕ Refusal
+join_of tag first second room = if_accepted Err (found_in tag first).verdict (λ s. if_accepted Err (found_in tag second).verdict (λ t. answer_for s t first second room))
 
 -- ## The buffer
 
 -- the result, which has this size, stands at its start, and no other byte changes; a refusal changes none
-abbrev pub buffer_by : Joined → List ℕ → List ℕ → List ℕ
-buffer_by (Wrote size) bytes buffer = bytes ++ drop size buffer
-buffer_by (Refused refusal) bytes buffer = buffer
+abbrev pub buffer_by : Result ℕ Refusal → List ℕ → List ℕ → List ℕ
+buffer_by (Ok size) bytes buffer = bytes ++ drop size buffer
+buffer_by (Err refusal) bytes buffer = buffer
 
 unfoldable pub buffer_of : List ℕ → List ℕ → List ℕ → List ℕ → List ℕ
 buffer_of tag first second buffer = buffer_by (join_of tag first second (length buffer)) (joined_bytes tag first second) buffer

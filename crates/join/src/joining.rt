@@ -2,88 +2,66 @@
 ghost use Rattle.std.specs.Prelude.{◌≡◌, ◌+◌, ◌≤◌, length};
 ghost use Rattle.words.specs.Le.{puts};
 ghost use Rattle.rules.specs.Verdicts.{summary_of};
-ghost use Rattle.join.specs.Join.{Parted, joined_at, fault_for, answer_for, buffer_by, join_of, buffer_of};
+ghost use Rattle.join.specs.Join.{joined_at, answer_for, join_of, buffer_of};
 
-use crate::Joined;
-use rules::{Place, Verdict, same_31};
-use whole::last_place;
-use words::number::u32_at;
+use crate::accepted::Accepted;
+use rules::{Place, same_31};
+use words::Refusal;
 use words::part::put_part;
-use words::{Refusal, Words};
 
 // A header and two bookends, which the joined shard has once.
 const SMALLEST: usize = 144;
 
-// The first file head stands at 48, its flags 32 bytes behind.
-const FIRST_FLAGS: usize = 80;
-
 // One shard of two, which are under the same tag.
-pub fn join(tag: &[u8], first: &[u8], second: &[u8], out: &mut [u8]) -> Joined
+pub fn join(tag: &[u8], first: &[u8], second: &[u8], out: &mut [u8]) -> Result<usize, Refusal>
     ensures { (result ≡ join_of tag.now first.now second.now (length out.old)) × (out.new ≡ buffer_of tag.now first.now second.now out.old) }
 {
-    let one = last_place(tag, first);
-    if let Verdict::Refused(refusal) = one.verdict() {
-        return Joined::Refused(refusal);
-    }
-    let two = last_place(tag, second);
-    if let Verdict::Refused(refusal) = two.verdict() {
-        return Joined::Refused(refusal);
-    }
-    join_accepted(first, one, second, two, out)
+    let one = Accepted::read(tag, first)?;
+    let two = Accepted::read(tag, second)?;
+    let size = joined_size(&one, &two, out.len())?;
+    put_joined(out, &one, &two);
+    Ok(size)
 }
 
-// Two accepted shards, each with its last place.
-fn join_accepted(first: &[u8], one: Place, second: &[u8], two: Place, out: &mut [u8]) -> Joined
-    requires { Parted first.now one.offset.0 × Parted second.now two.offset.0 }
-    ensures { (result ≡ answer_for (summary_of one) (summary_of two) first.now second.now (length out.old)) × (out.new ≡ buffer_by (answer_for (summary_of one) (summary_of two) first.now second.now (length out.old)) (joined_at first.now one.offset.0 second.now two.offset.0) out.old) }
+// How many bytes the two come to, or the refusal by the first check that fails.
+#[tactic(auto, unfolding(crate::specs::Join::answer_for, crate::specs::Join::join_fault))]
+fn joined_size(one: &Accepted, two: &Accepted, room: usize) -> Result<usize, Refusal>
+    ensures { result ≡ answer_for (summary_of one.now.last) (summary_of two.now.last) one.now.bytes.now two.now.bytes.now room }
 {
-    let size = first.len() + second.len() - SMALLEST;
-    let same = same_31(u32_at(first, FIRST_FLAGS), u32_at(second, FIRST_FLAGS));
-    let number = fault(one, two, same, size, out.len());
-    if number == 0 {
-        let x = one.offset;
-        let y = two.offset;
-        put_joined(out, first, x.0 as usize, second, y.0 as usize);
-        return Joined::Wrote(size);
-    }
-    let start = Place::START;
-    Joined::Refused(start.refusal(number))
-}
-
-// The number of the first check that fails, 0 if none does.
-fn fault(one: Place, two: Place, same: bool, size: usize, room: usize) -> u32
-    ensures { result ≡ fault_for (summary_of one) (summary_of two) same size room }
-{
-    let a = one.totals;
-    let b = two.totals;
-    let agree = (a.files == 0) | (b.files == 0) | same;
-    if one.footer | two.footer {
-        return Refusal::FOOTER;
+    let size = one.bytes.len() + two.bytes.len() - SMALLEST;
+    let files = one.last.totals.files;
+    let more_files = two.last.totals.files;
+    let agree = (files == 0) | (more_files == 0) | same_31(one.first_flags(), two.first_flags());
+    if one.last.footer | two.last.footer {
+        return Err(Place::START.refusal(Refusal::FOOTER));
     }
     if !agree {
-        return Refusal::BIT_31;
+        return Err(Place::START.refusal(Refusal::BIT_31));
     }
     if Place::LIMIT < size as u64 {
-        return Refusal::LIMIT;
+        return Err(Place::START.refusal(Refusal::LIMIT));
     }
     if room < size {
-        return Refusal::BUFFER;
+        return Err(Place::START.refusal(Refusal::BUFFER));
     }
-    0
+    Ok(size)
 }
 
-// The joined shard, at the start of a buffer; x and y are the two xorb offsets.
-fn put_joined(out: &mut [u8], first: &[u8], x: usize, second: &[u8], y: usize)
-    requires { Parted first.now x × Parted second.now y × (length first.now + length second.now ≤ length out.old + 144) }
-    ensures { out.new ≡ puts out.old 0 (joined_at first.now x second.now y) }
+// The joined shard, at the start of a buffer.
+#[tactic(auto, using(crate::proofs::Copies::four_copies))]
+fn put_joined(out: &mut [u8], one: &Accepted, two: &Accepted)
+    requires { length one.now.bytes.now + length two.now.bytes.now ≤ length out.old + 144 }
+    ensures { out.new ≡ puts out.old 0 (joined_at one.now.bytes.now one.now.last.offset.0 two.now.bytes.now two.now.last.offset.0) }
 {
-    // The lengths of the four parts.
-    let a = x - Words::SIZE;
-    let b = y - Words::SIZE;
-    let c = first.len() - Words::SIZE - x;
-    let d = second.len() - y;
-    put_part(out, 0, first, 0, a);
-    put_part(out, a, second, Words::SIZE, b);
-    put_part(out, a + b, first, x, c);
-    put_part(out, a + b + c, second, y, d);
+    let files = one.header_and_files();
+    let more_files = two.files_and_bookend();
+    let xorbs = one.xorbs();
+    let mut at = 0;
+    put_part(out, at, files);
+    at += files.len();
+    put_part(out, at, more_files);
+    at += more_files.len();
+    put_part(out, at, xorbs);
+    at += xorbs.len();
+    put_part(out, at, two.xorbs_and_bookend());
 }

@@ -16,7 +16,7 @@ use Rattle.rules.specs.Rules.{size_by, size_of, footer_fault, fault_of, kind_of,
 use Rattle.rules.specs.declared.Place.{Place}
 use Rattle.rules.specs.declared.Record.{Record}
 use Rattle.rules.specs.declared.Due.{Due}
-use Rattle.rules.specs.declared.Verdict.{Verdict}
+use Rattle.rules.specs.Verdicts.{Verdict}
 use Rattle.rules.specs.declared.Due.TheVariants.{Footer, End}
 use Rattle.layout.specs.Layout.{Row, spell_rows}
 use Rattle.layout.specs.Refusal.{Ends, FateClaim, early, done, over, faulty}

@@ -1,4 +1,5 @@
 -- THE CLAIM OF THE REFUSALS holds because every input has its fate (crate cut), and a reading never comes to a refused place by good records. Assumes nothing.
+use Rattle.std.specs.Prelude.{Err}
 use mathlib.Core.Path.{◌≡◌, refl, sym, ap, ◌∙◌, subst}
 use mathlib.Core.Logic.{◌≢◌}
 use mathlib.Core.List.{List, [], ◌∷◌}
@@ -20,7 +21,6 @@ use Rattle.rules.specs.declared.Place.{Place}
 use Rattle.rules.specs.declared.Record.{Record}
 use Rattle.rules.specs.declared.Due.{Due}
 use Rattle.rules.specs.declared.Due.TheVariants.{Header, FileHead, Segment, Verification, Metadata, XorbHead, Chunk, Footer, End, Refused}
-use Rattle.rules.specs.declared.Verdict.TheVariants as verdict
 use Rattle.layout.specs.Refusal.{Ends, FateClaim, tag_refused, early, done, over, faulty}
 use Rattle.layout.specs.Scan.{format, begin, scan, verdict_of, found_in}
 use Rattle.layout.proofs.Judged.{bad_is, good_is}
@@ -87,7 +87,7 @@ reads_end four {q = q} t z = live_end q.due (live_reads four t tt) z
 -- ## The verdict
 
 -- where something is due, it is 1
-early_verdict : (d : Due) (p : Place) → 0 < size_by d → verdict_by d p ≡ verdict.Refused (refusal_at 1 p)
+early_verdict : (d : Due) (p : Place) → 0 < size_by d → verdict_by d p ≡ Err (refusal_at 1 p)
 early_verdict Header p l = refl
 early_verdict FileHead p l = refl
 early_verdict (Segment left) p l = refl

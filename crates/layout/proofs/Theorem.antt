@@ -1,5 +1,6 @@
 -- THE LAYOUT THEOREM holds because the rows of a sound shard are good (ShardForth), good rows to the end are those of a sound shard (ShardBack),
 -- and its records are those of no other (Unique). Assumes nothing.
+use Rattle.std.specs.Prelude.{Ok}
 use mathlib.Core.Path.{◌≡◌, refl, sym, ap, ap₂, ◌∙◌, subst}
 use mathlib.Core.Option.{Option, none, some}
 use mathlib.Core.Bool.{Bool, true, false}
@@ -22,9 +23,8 @@ use Rattle.rules.specs.declared.Totals.{Totals}
 use Rattle.rules.specs.declared.Place.{Place}
 use Rattle.rules.specs.declared.Record.{Record}
 use Rattle.rules.specs.declared.Due.{Due}
-use Rattle.rules.specs.declared.Verdict.{Verdict}
+use Rattle.rules.specs.Verdicts.{Verdict}
 use Rattle.rules.specs.declared.Due.TheVariants.{Footer, End}
-use Rattle.rules.specs.declared.Verdict.TheVariants as verdict
 use Rattle.layout.specs.Layout.{joined, footer_size, Foot, Shard, has, if_any, Each, Row, header_row, file_section, xorb_section, rows_of, xorb_offset, footer_offset, length_of, spell_rows, spell_foot, bytes_of, placed, foot_record, records_of, SoundFoot, Sound, foot_words}
 use Rattle.layout.specs.Claim.{meaning_of, Spells, LayoutClaim}
 use Rattle.layout.specs.Scan.{format, Found, found_of, found_in, IsAccepted}
@@ -42,13 +42,13 @@ found_same : {r r' : List Record} {v v' : Verdict} → r ≡ r' → v ≡ v' →
 found_same p q = rw (p, q)
 
 accepted_same : {x y : ℕ} {t u : Totals} {b c : Bool} → x ≡ y → t ≡ u → b ≡ c
-    → verdict.Accepted (record { length = x; totals = t; footer = b }) ≡ verdict.Accepted (record { length = y; totals = u; footer = c })
+    → ◌≡◌ {A = Verdict} (Ok (record { length = x; totals = t; footer = b })) (Ok (record { length = y; totals = u; footer = c }))
 accepted_same p q r = rw (p, q, r)
 
 -- where a footer is due, its bytes give its record, and the end behind it
 foot_found : (four : Tag) (q : Place) (g : Foot) → q.due ≡ Footer → q.offset.0 < 2 ^ 64 → q.at.0 < 2 ^ 64 → SoundFoot g
     → found_of (run (format four) (at q []) (spell_foot q.offset.0 q.at.0 g))
-    ≡ record { records = foot_record q.offset.0 q.at.0 g ∷ []; verdict = verdict.Accepted (record { length = q.at.0 + 200; totals = plus q.totals nothing; footer = q.footer }) }
+    ≡ record { records = foot_record q.offset.0 q.at.0 g ∷ []; verdict = Ok (record { length = q.at.0 + 200; totals = plus q.totals nothing; footer = q.footer }) }
 unfolding verdict_at next_of kind_of
 foot_found four q g d lx lh ok =
     let w : Words = foot_words g in
@@ -59,7 +59,7 @@ foot_found four q g d lx lh ok =
 ending : (four : Tag) (q : Place) (x h : ℕ) (o : Option Foot) → q.at.0 ≡ h → q.offset.0 ≡ x → q.due ≡ pick (has o) Footer End → q.footer ≡ has o
     → h ≤ limit → x ≤ limit → Each SoundFoot (if_any o)
     → found_of (run (format four) (at q []) (joined (spell_foot x h) (if_any o)))
-    ≡ record { records = map (foot_record x h) (if_any o); verdict = verdict.Accepted (record { length = h + pick (has o) 200 0; totals = q.totals; footer = has o }) }
+    ≡ record { records = map (foot_record x h) (if_any o); verdict = Ok (record { length = h + pick (has o) 200 0; totals = q.totals; footer = has o }) }
 unfolding verdict_at
 ending four q x h none eh ex d f lh lx ok =
     ap found_of (run_nil (format four) (at q []))

@@ -1,18 +1,17 @@
 -- THE CLAIM OF THE LAYOUT, proved in proofs/Theorem for every tag of 32 bytes: bytes are accepted exactly if they are those of a sound shard;
 -- that shard is the only one; and the records, the length and the totals found are its own.
-use Rattle.std.specs.Prelude.{◌≡◌, ◌↔◌, ℕ, List, ◌++◌, length, take}
+use Rattle.std.specs.Prelude.{◌≡◌, ◌↔◌, ℕ, List, ◌++◌, length, take, Ok}
 use Rattle.words.specs.Le.{Bytes, spell}
 use Rattle.layout.specs.Scan.{Found, found_in, IsAccepted}
 use Rattle.layout.specs.Layout.{Shard, Sound, footer_size, has, bytes_of, records_of, totals_of, length_of}
 use Rattle.rules.specs.declared.Summary.{Summary}
-use Rattle.rules.specs.declared.Verdict.TheVariants.{Accepted}
 
 -- what is to be said of a shard, and found in its bytes
 abbrev pub summary_for : Shard → Summary
 summary_for s = record { length = length_of s; totals = totals_of s; footer = has s.footer }
 
 abbrev pub meaning_of : List ℕ → Shard → Found
-meaning_of tag s = record { records = records_of tag s; verdict = Accepted (summary_for s) }
+meaning_of tag s = record { records = records_of tag s; verdict = Ok (summary_for s) }
 
 -- a sound shard that is spelled so
 pub record Spells (tag : List ℕ) (s : Shard) (bytes : List ℕ) : Type 0 where

@@ -1,5 +1,5 @@
 -- Shards from the quay: the examples of document 01 that are marked P, in one list under one claim.
-use Rattle.std.specs.Prelude.{◌≡◌, refl, ℕ, zero, suc, ◌+◌, List, [], ◌∷◌, ◌++◌, map, Bool, true, false, replicate}
+use Rattle.std.specs.Prelude.{◌≡◌, refl, ℕ, zero, suc, ◌+◌, List, [], ◌∷◌, ◌++◌, map, Bool, true, false, replicate, Ok, Err}
 use Rattle.cut.specs.Format.{run, push, fill}
 use Rattle.words.specs.Le.{le_at, zeros_at, spell}
 use Rattle.words.specs.Record.{spell_hash, spell_words}
@@ -7,9 +7,8 @@ use Rattle.words.specs.Refusals.{refused_at}
 use Rattle.rules.specs.Rules.{fault_of, kind_of, next_of, counts}
 use Rattle.rules.specs.Verdicts.{verdict_at}
 use Rattle.layout.specs.Scan.{found_in, scan}
-use Rattle.rules.specs.declared.Verdict.{Verdict}
+use Rattle.rules.specs.Verdicts.{Verdict}
 use Rattle.rules.specs.declared.Totals.{Totals}
-use Rattle.rules.specs.declared.Verdict.TheVariants.{Accepted, Refused}
 
 -- n bytes that count up
 abbrev up_from : ℕ → ℕ → List ℕ
@@ -38,10 +37,10 @@ abbrev pub hash : List ℕ
 hash = 1 ∷ 2 ∷ 3 ∷ 4 ∷ []
 
 abbrev pub accepted : ℕ → Totals → Bool → Verdict
-accepted length totals has_footer = Accepted (record { length = length; totals = totals; footer = has_footer })
+accepted length totals has_footer = Ok (record { length = length; totals = totals; footer = has_footer })
 
 abbrev pub refused : ℕ → ℕ → Verdict
-refused number position = Refused (refused_at position number)
+refused number position = Err (refused_at position number)
 
 pub record Example : Type 0 where
   pub bytes : List ℕ

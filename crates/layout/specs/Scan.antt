@@ -1,5 +1,5 @@
 -- WHAT BYTES MEAN: the records found in them and the verdict, by the rules, byte after byte.
-use Rattle.std.specs.Prelude.{ℕ, zero, suc, List, [], eqb, length}
+use Rattle.std.specs.Prelude.{ℕ, zero, suc, List, [], eqb, length, Ok, Err}
 use Rattle.words.specs.Checks.{pick}
 use Rattle.words.specs.Record.{tag_at}
 use Rattle.cut.specs.Format.{Format, Judged, good, bad, State, at, stopped, Run, run}
@@ -11,8 +11,7 @@ use Rattle.rules.specs.declared.Record.{Record}
 use Rattle.words.specs.declared.Refusal.{Refusal}
 use Rattle.words.specs.declared.Tag.{Tag}
 use Rattle.rules.specs.declared.Summary.{Summary}
-use Rattle.rules.specs.declared.Verdict.{Verdict}
-use Rattle.rules.specs.declared.Verdict.TheVariants as verdict
+use Rattle.rules.specs.Verdicts.{Verdict}
 
 -- ## One record
 
@@ -57,13 +56,13 @@ found_in tag bytes = found_of (scan tag bytes)
 -- ## By the verdict
 
 abbrev pub IsAccepted : Verdict → Type 0
-IsAccepted (verdict.Accepted summary) = Unit {0}
-IsAccepted (verdict.Refused refusal) = ⊥
+IsAccepted (Ok summary) = Unit {0}
+IsAccepted (Err refusal) = ⊥
 
 -- a refused shard gives its refusal; what else is answered may depend on what is said of an accepted one
 abbrev pub if_accepted : {A : Type 0} → (Refusal → A) → Verdict → (Summary → A) → A
-if_accepted refused (verdict.Accepted summary) answer = answer summary
-if_accepted refused (verdict.Refused refusal) answer = refused refusal
+if_accepted refused (Ok summary) answer = answer summary
+if_accepted refused (Err refusal) answer = refused refusal
 
 -- ## Totals
 

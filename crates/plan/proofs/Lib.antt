@@ -1,4 +1,5 @@
 pub mod Steps
+pub mod Records
 pub mod Passes
 pub mod Tree
 pub mod Seeking

@@ -1,5 +1,6 @@
 -- What a plan comes to: the shard's refusal, or for a file that is there 18, 15 or its rows, each exactly where the request says so, because its tests are those of natural numbers.
 -- Assumes nothing.
+use Rattle.std.specs.Prelude.{Err}
 use mathlib.Core.Path.{◌≡◌, refl, sym, ap, ◌∙◌}
 use mathlib.Core.Bool.{Bool, true, false}
 use mathlib.Core.Logic.{◌⊎◌, inl, inr}
@@ -11,7 +12,6 @@ use lib.Dec.{leb, ltb}
 use lib.ListN.{length}
 use borrow.Author.Tests.{ltb-true, ltb-false, leb-true, leb-false}
 use Rattle.words.specs.declared.Refusal.{Refusal}
-use Rattle.rules.specs.declared.Verdict.TheVariants as verdict
 use Rattle.layout.specs.Layout.{Segment}
 use Rattle.layout.specs.Scan.{found_in, IsAccepted}
 use Rattle.layout.proofs.Answers.{if_accepted_lem, if_refused}
@@ -22,7 +22,7 @@ use Rattle.plan.specs.declared.Row.{Row}
 -- ## By the shard
 
 module _ (tag bytes : List ℕ) (file a b room : ℕ) where
-  pub plan_refused : (r : Refusal) → (found_in tag bytes).verdict ≡ verdict.Refused r → plan_of tag bytes file a b room ≡ refused r
+  pub plan_refused : (r : Refusal) → (found_in tag bytes).verdict ≡ Err r → plan_of tag bytes file a b room ≡ refused r
   unfolding plan_of
   plan_refused r e = if_refused refused (found_in tag bytes).verdict (λ s. plan_for (segments_in file (found_in tag bytes).records) a b room) r e
 

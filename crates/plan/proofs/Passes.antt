@@ -1,117 +1,95 @@
--- The two passes over a file's segments, turn by turn: what is left gives what the whole gives, by the rows of one segment and of those behind it.
--- Assumes nothing.
-use mathlib.Core.Path.{◌≡◌, refl, ap, ◌∙◌}
-use mathlib.Core.List.{List, [], ◌∷◌}
-use Prim.Native.Nat.{ℕ, zero, suc, ◌+◌, ◌-◌, min, ◌≤◌, ◌<◌}
+-- The walk over a file's segments, turn by turn: the rows that are left are those of one segment and of those behind it. Assumes nothing.
+use Rattle.std.specs.Prelude.{Option, Some, None}
+use Rattle.std.specs.Option.{is_some}
+use mathlib.Core.Path.{◌≡◌, refl, sym, ap, ◌∙◌}
+use mathlib.Core.Bool.{true, false, true≢false}
+use mathlib.Core.List.{List, [], ◌∷◌, map}
+use Prim.Native.Nat.{ℕ, ◌+◌, ◌-◌, ◌*◌, ◌≤◌, ◌<◌}
 use native.Mathlib.Omega.{arith}
 use lib.Dec.{ltb}
 use lib.ListN.{length}
 use borrow.Author.Tests.{lt-ltb, le-ltb}
 use Rattle.words.specs.Checks.{pick}
-use Rattle.words.specs.Record.{words_at}
 use Rattle.words.specs.declared.Words.{Words}
 use Rattle.layout.specs.Layout.{Segment}
 use Rattle.layout.specs.Blocks.{segment_of}
 use Rattle.plan.specs.Plan.{rows_for, file_bytes}
-use Rattle.plan.specs.Walk.{share_of, segments_from, rows_left, measure_of}
+use Rattle.plan.specs.Walk.{share_of, words_left, segments_left, rows_left, past_of, measure_of, Gives}
 use Rattle.plan.specs.declared.Row.{Row}
-use Rattle.plan.specs.declared.rows.Share.{Share}
-use Rattle.plan.specs.declared.rows.Cursor.{Cursor}
+use Rattle.plan.specs.declared.rows.Rows.{Rows}
 use Rattle.plan.specs.declared.rows.Measure.{Measure}
+use Rattle.plan.specs.declared.rows.Share.{Share}
+use Rattle.plan.specs.declared.segments.Segments.{Segments}
 use Rattle.plan.proofs.Steps.{row_by, rows_step}
-
-less_min : (x n : ℕ) → x - min x n ≡ x - n
-less_min x n = omega arith
-
-pub share_is : (a b n x y t : ℕ) → x ≡ min a n → y ≡ min b n → t ≡ y - x → ◌≡◌ {A = Share} (record { a = a - x; b = b - y; skip = x; take = t }) (share_of a b n)
-share_is a b n x y t ex ey et = rw (et, ex, ey, less_min a n, less_min b n)
-
--- the rows of those that are left
-abbrev pub rows_from : List ℕ → ℕ → ℕ → ℕ → ℕ → List Row
-rows_from bytes at a b left = rows_for a b (segments_from bytes at left)
-
--- what is left, with so many rows before
-abbrev pub measure_from : List ℕ → ℕ → ℕ → ℕ → ℕ → ℕ → Measure
-measure_from bytes rows at a b left = record { rows = rows + length (rows_from bytes at a b left); past = b - file_bytes (segments_from bytes at left) }
-
-sub_sub : (b n f : ℕ) → b - n - f ≡ b - (n + f)
-sub_sub b n f = omega arith
+use Rattle.plan.proofs.Records.{length_left}
+use Rattle.plan.proofs.RowClaims.{rows}
 
 -- ## One segment more
 
-module _ (bytes : List ℕ) (at a b left : ℕ) (w : Words) (s : Share) (read : w ≡ words_at bytes at) (share : s ≡ share_of a b w.b) (more : 0 < left) where
+abbrev rows_of : Segments → ℕ → ℕ → Rows
+rows_of s a b = record { segments = s; a = a; b = b }
+
+module _ (r : Rows) (t : Segments) (w : Words) (first : words_left r.segments ≡ w ∷ words_left t) (share : Share) (is : share ≡ share_of r.a r.b w.b) where
   abbrev rest : List Row
-  rest = rows_from bytes (at + 48) s.a s.b (left - 1)
+  rest = rows_left (rows_of t share.a share.b)
 
-  turn : rows_from bytes at a b left ≡ pick (ltb 0 s.take) (row_by (segment_of w) s ∷ rest) rest
-  unfolding segments_from
-  turn = go left more
-    where
-      go : (n : ℕ) → 0 < n → rows_from bytes at a b n ≡ pick (ltb 0 s.take) (row_by (segment_of w) s ∷ rows_from bytes (at + 48) s.a s.b (n - 1)) (rows_from bytes (at + 48) s.a s.b (n - 1))
-      go zero h = absurd (omega arith)
-      go (suc n) h =
-          let e : suc n - 1 ≡ n = omega arith in
-          rw (e, share, read) (rows_step a b (segment_of (words_at bytes at)) (segments_from bytes (at + 48) n))
+  turn : rows_left r ≡ pick (ltb 0 share.take) (row_by (segment_of w) share ∷ rest) rest
+  turn = ap (λ (ws : List Words). rows_for r.a r.b (map segment_of ws)) first ∙ rw is (rows_step r.a r.b (segment_of w) (map segment_of (words_left t)))
 
-  pub turn_takes : 0 < s.take → rows_from bytes at a b left ≡ row_by (segment_of w) s ∷ rest
-  turn_takes t = turn ∙ rw (lt-ltb 0 s.take t)
+  past_on : past_of (rows_of t share.a share.b) ≡ past_of r
+  past_on =
+      let f : file_bytes (segments_left r.segments) ≡ w.b + file_bytes (segments_left t) = ap (λ (ws : List Words). file_bytes (map segment_of ws)) first in
+      omega (arith, ap (λ (s : Share). s.b) is)
 
-  pub turn_passes : s.take ≤ 0 → rows_from bytes at a b left ≡ rest
-  turn_passes t = turn ∙ rw (le-ltb 0 s.take t)
+  pub turn_takes : 0 < share.take → (rows_left r ≡ row_by (segment_of w) share ∷ rest) × (past_of (rows_of t share.a share.b) ≡ past_of r)
+  turn_takes h = (turn ∙ rw (lt-ltb 0 share.take h), past_on)
 
-  -- so much of the range lies past them
-  past_on : s.b - file_bytes (segments_from bytes (at + 48) (left - 1)) ≡ b - file_bytes (segments_from bytes at left)
-  unfolding segments_from
-  past_on = go left more
-    where
-      go : (n : ℕ) → 0 < n → s.b - file_bytes (segments_from bytes (at + 48) (n - 1)) ≡ b - file_bytes (segments_from bytes at n)
-      go zero h = absurd (omega arith)
-      go (suc n) h =
-          let e : suc n - 1 ≡ n = omega arith in
-          rw (e, share, read) (sub_sub b (words_at bytes at).b (file_bytes (segments_from bytes (at + 48) n)))
-
-  measure_on : (rows so_far : ℕ) → so_far + length rest ≡ rows + length (rows_from bytes at a b left)
-      → measure_from bytes so_far (at + 48) s.a s.b (left - 1) ≡ measure_from bytes rows at a b left
-  measure_on rows so_far e = rw (e, past_on)
-
-  pub measure_takes : (rows so_far : ℕ) → 0 < s.take → so_far ≡ rows + 1 → measure_from bytes so_far (at + 48) s.a s.b (left - 1) ≡ measure_from bytes rows at a b left
-  measure_takes rows so_far t e = measure_on rows so_far (omega (arith, ap length (turn_takes t)))
-
-  pub measure_passes : (rows so_far : ℕ) → s.take ≤ 0 → so_far ≡ rows → measure_from bytes so_far (at + 48) s.a s.b (left - 1) ≡ measure_from bytes rows at a b left
-  measure_passes rows so_far t e = measure_on rows so_far (omega (arith, ap length (turn_passes t)))
-
--- ## Where it begins
-
-pub measure_begins : (bytes : List ℕ) (c : Cursor) → measure_from bytes 0 c.at c.a c.b c.left ≡ measure_of bytes c
-measure_begins bytes c = let x : 0 + length (rows_left bytes c) ≡ length (rows_left bytes c) = omega arith in rw x
+  pub turn_passes : share.take ≤ 0 → (rows_left r ≡ rest) × (past_of (rows_of t share.a share.b) ≡ past_of r)
+  turn_passes h = (turn ∙ rw (le-ltb 0 share.take h), past_on)
 
 -- ## Nothing more
 
 -- a range of no bytes has no rows
-no_rows : (a : ℕ) (ss : List Segment) → rows_for a 0 ss ≡ []
+no_bytes : (a : ℕ) (ss : List Segment) → rows_for a 0 ss ≡ []
 unfolding rows_for
-no_rows a [] = refl
-no_rows a (s ∷ ss) =
+no_bytes a [] = refl
+no_bytes a (s ∷ ss) =
     let t : (share_of a 0 s.bytes).take ≤ 0 = omega arith in
     let e : 0 - s.bytes ≡ 0 = omega arith in
-    rows_step a 0 s ss ∙ rw (le-ltb 0 (share_of a 0 s.bytes).take t, e) (no_rows (a - s.bytes) ss)
+    rows_step a 0 s ss ∙ rw (le-ltb 0 (share_of a 0 s.bytes).take t, e) (no_bytes (a - s.bytes) ss)
 
-pub measure_ends : (bytes : List ℕ) (rows at a b left : ℕ) → left ≡ 0 → ◌≡◌ {A = Measure} (record { rows = rows; past = b }) (measure_from bytes rows at a b left)
-unfolding rows_for segments_from
-measure_ends bytes rows at a b left e =
-    let x : rows + 0 ≡ rows = omega arith in
-    let y : b - 0 ≡ b = omega arith in
-    rw (e, x, y)
+pub range_over : (r : Rows) → r.b ≤ 0 → (rows_left r ≡ []) × (r.b ≡ past_of r)
+range_over r h = (let z : r.b ≡ 0 = omega arith in rw z (no_bytes r.a (map segment_of (words_left r.segments))), omega arith)
 
-pub measure_done : (bytes : List ℕ) (rows at a b left : ℕ) → b ≤ 0 → ◌≡◌ {A = Measure} (record { rows = rows; past = 0 }) (measure_from bytes rows at a b left)
-measure_done bytes rows at a b left h =
-    let z : b ≡ 0 = omega arith in
-    let x : rows + 0 ≡ rows = omega arith in
-    let y : 0 - file_bytes (segments_from bytes at left) ≡ 0 = omega arith in
-    rw (z, no_rows a (segments_from bytes at left), x, y)
+pub segments_over : (r : Rows) → words_left r.segments ≡ [] → (rows_left r ≡ []) × (r.b ≡ past_of r)
+unfolding rows_for
+segments_over r e = (rw e, omega (arith, ap (λ (ws : List Words). file_bytes (map segment_of ws)) e))
 
--- where a row is left, so is a segment
-pub some_left : (bytes : List ℕ) (at a b left : ℕ) → 0 < length (rows_from bytes at a b left) → 0 < left
-unfolding rows_for segments_from
-some_left bytes at a b zero h = absurd (omega arith)
-some_left bytes at a b (suc n) h = omega arith
+-- ## A call of `next`
+
+module _ (r later : Rows) (x : Option Row) (gives : Gives r x later) where
+  pub one_given : true ≡ is_some x → (length (rows_left r) ≡ length (rows_left later) + 1) × (past_of later ≡ past_of r)
+  one_given e = go x gives e
+    where
+      go : (x : Option Row) → Gives r x later → true ≡ is_some x → (length (rows_left r) ≡ length (rows_left later) + 1) × (past_of later ≡ past_of r)
+      go (Some row) g e = (omega (arith, ap length g.0), g.1)
+      go None g e = absurd (true≢false e)
+
+  pub none_given : false ≡ is_some x → (length (rows_left r) ≡ 0) × (later.b ≡ past_of r)
+  none_given e = go x gives e
+    where
+      go : (x : Option Row) → Gives r x later → false ≡ is_some x → (length (rows_left r) ≡ 0) × (later.b ≡ past_of r)
+      go (Some row) g e = absurd (true≢false (sym e))
+      go None g e = (ap length g.0, g.2)
+
+-- no more rows are left than records
+pub rows_few : (r : Rows) → 48 * length (rows_left r) ≤ length r.segments.bytes.now
+rows_few r = omega (arith, rows.few r.a r.b (segments_left r.segments), length_left r.segments.bytes.now)
+
+pub measured_is : (rows past : ℕ) (r : Rows) → rows ≡ length (rows_left r) → past ≡ past_of r → ◌≡◌ {A = Measure} (record { rows = rows; past = past }) (measure_of r)
+measured_is rows past r e f = rw (e, f)
+
+-- what `next` and `measured` stand on
+pub ruleset turns = (turn_takes, turn_passes, range_over, segments_over)
+
+pub ruleset counting = (one_given, none_given, rows_few)

@@ -1,4 +1,6 @@
 -- The claims of the plan, because the records found in an accepted shard are those of its tree. Assumes nothing.
+use Rattle.std.specs.Prelude.{Result, Ok, Err}
+use Rattle.words.specs.declared.Refusal.{Refusal}
 use mathlib.Core.Path.{◌≡◌, refl, sym, ap, ◌∙◌, subst}
 use mathlib.Core.Bool.{true≢false}
 use mathlib.Core.Option.{Option, none, some}
@@ -15,8 +17,6 @@ use Rattle.layout.proofs.Answers.{was_accepted}
 use Rattle.plan.specs.Plan.{Plan, fetch, refused, rows_for, segments_at, segments_in, plan_for, plan_of, answer_to, table_to}
 use Rattle.plan.specs.Claims.{InFile, Delivers, fetched, PlanClaim}
 use Rattle.plan.specs.declared.Row.{Row}
-use Rattle.plan.specs.declared.Planned.{Planned}
-use Rattle.plan.specs.declared.Planned.TheVariants as planned
 use Rattle.plan.proofs.Tree.{in_bytes}
 use Rattle.plan.proofs.Outcomes.{plan_refused, plan_found, out_to, out_from, short_to, short_from, rows_to, rows_from_lem}
 use Rattle.plan.proofs.RowClaims.{rows}
@@ -49,26 +49,26 @@ record Answered (o : Option (List Segment)) (a b room n : ℕ) : Type 0 where
   count : length (rows_for a b segments) ≡ n
 
 -- the rows that an answer counts
-abbrev counted : Planned → ℕ
-counted (planned.Rows n) = suc n
-counted (planned.Refused r) = 0
+abbrev counted : Result ℕ Refusal → ℕ
+counted (Ok n) = suc n
+counted (Err r) = 0
 
-answered : (o : Option (List Segment)) (a b room n : ℕ) → answer_to (plan_for o a b room) ≡ planned.Rows n → Answered o a b room n
+answered : (o : Option (List Segment)) (a b room n : ℕ) → answer_to (plan_for o a b room) ≡ Ok n → Answered o a b room n
 answered none a b room n e = absurd (omega (arith, ap counted e))
 answered (some ss) a b room n e = go (plan_for (some ss) a b room) refl e
   where
-    go : (p : Plan) → plan_for (some ss) a b room ≡ p → answer_to p ≡ planned.Rows n → Answered (some ss) a b room n
+    go : (p : Plan) → plan_for (some ss) a b room ≡ p → answer_to p ≡ Ok n → Answered (some ss) a b room n
     go (fetch rs) q u =
         let (i, l, r) = rows_to ss a b room rs q in
         record { segments = ss; found = refl; in_file = i; rows = q ∙ ap fetch r; count = ap length (sym r) ∙ omega (arith, ap counted u) }
     go (refused r) q u = absurd (omega (arith, ap counted u))
 
-module _ (tag bytes : List ℕ) (file a b n : ℕ) (table : List Row) (answers : answer_to (plan_of tag bytes file a b (length table)) ≡ planned.Rows n) where
+module _ (tag bytes : List ℕ) (file a b n : ℕ) (table : List Row) (answers : answer_to (plan_of tag bytes file a b (length table)) ≡ Ok n) where
   -- a shard that is refused answers no rows
   accepted : IsAccepted (found_in tag bytes).verdict
   unfolding plan_of
   accepted =
-      was_accepted refused (λ (p : Plan). answer_to p ≡ planned.Rows n) (found_in tag bytes).verdict (λ s. plan_for (segments_in file (found_in tag bytes).records) a b (length table))
+      was_accepted refused (λ (p : Plan). answer_to p ≡ Ok n) (found_in tag bytes).verdict (λ s. plan_for (segments_in file (found_in tag bytes).records) a b (length table))
       (λ r e. absurd (omega (arith, ap counted e))) answers
 
   delivered : Bytes tag → Bytes bytes → Delivers tag bytes file a b n table (table_to (plan_of tag bytes file a b (length table)) table)

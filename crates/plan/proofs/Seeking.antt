@@ -1,12 +1,14 @@
 -- The walk over file heads, step by step: what is still to come has the file that is sought, because each head says how many records follow it.
 -- Assumes nothing.
-use mathlib.Core.Path.{◌≡◌, refl, sym, ap, ◌∙◌, subst}
+use Rattle.std.specs.Prelude.{Result, Option, Ok, Err, None}
+use mathlib.Core.Path.{◌≡◌, sym, ap, ◌∙◌, subst}
 use mathlib.Core.Bool.{true, false}
 use mathlib.Core.Option.{some}
-use mathlib.Core.List.{List, [], ◌∷◌, ◌++◌, map}
+use mathlib.Core.List.{List, ◌∷◌, ◌++◌, map}
 use Prim.Native.Nat.{ℕ, zero, suc, ◌+◌, ◌-◌, ◌*◌, ◌≤◌, ◌<◌}
+use native.Mathlib.Nat.{sub-zero}
 use native.Mathlib.Omega.{arith}
-use lib.ListN.{length}
+use lib.ListN.{length, take, drop}
 use Rattle.words.specs.Le.{Bytes}
 use Rattle.words.specs.Record.{words_at, is_ones}
 use Rattle.words.specs.declared.Words.{Words}
@@ -15,8 +17,7 @@ use Rattle.rules.specs.Verdicts.{verdict_at}
 use Rattle.rules.specs.declared.Place.{Place}
 use Rattle.words.specs.declared.Refusal.{Refusal}
 use Rattle.rules.specs.declared.Summary.{Summary}
-use Rattle.rules.specs.declared.Verdict.{Verdict}
-use Rattle.rules.specs.declared.Verdict.TheVariants as verdict
+use Rattle.rules.specs.Verdicts.{Verdict}
 use Rattle.layout.specs.Layout.{Segment, FileBlock, Row, Each, segment_row, rows_of, xorb_section, SoundFile}
 use Rattle.layout.specs.Blocks.{other_rows, file_block, blocks_then, Stand, segment_of}
 use Rattle.layout.specs.Scan.{found_in, IsAccepted}
@@ -26,7 +27,9 @@ use Rattle.finder.proofs.Sections.{file_section_lem}
 use Rattle.finder.proofs.Heads.{file_heads, Head, head_room, at_bookend, at_head, next_due}
 use Rattle.finder.proofs.Begin.{Accepted, accepted, verdict_is}
 use Rattle.plan.specs.Plan.{segments_at, segments_in}
-use Rattle.plan.specs.Walk.{segments_from, Within, SegmentsThere, NoneThere}
+use Rattle.plan.specs.Walk.{Seeks}
+use Rattle.plan.specs.declared.segments.Segments.{Segments}
+use Rattle.plan.proofs.Records.{records, stand_within, stand_read}
 use Rattle.plan.proofs.Tree.{in_bytes}
 
 -- what is still to come at a position, with so many files to pass: files, a bookend, and the rest
@@ -44,17 +47,6 @@ one_passed : (n : ℕ) → 0 < n → (f : FileBlock) (fs : List FileBlock) → s
 one_passed zero z f fs = absurd (omega arith)
 one_passed (suc n) z f fs = let k : suc n - 1 ≡ n = omega arith in rw k
 
--- segments that stand as rows are read there, and stand within the bytes
-segments_read : (bytes : List ℕ) (at : ℕ) (ss : List Segment) (others : List Row) → Stand bytes at (map segment_row ss ++ others) → segments_from bytes at (length ss) ≡ ss
-unfolding segments_from
-segments_read bytes at [] others h = refl
-segments_read bytes at (s ∷ ss) others (w, l, h) =
-    ap (λ (v : Words). segment_of v ∷ segments_from bytes (at + 48) (length ss)) w ∙ ap (λ (l : List Segment). s ∷ l) (segments_read bytes (at + 48) ss others h)
-
-segments_within : (bytes : List ℕ) (at : ℕ) (ss : List Segment) (others : List Row) → at ≤ length bytes → Stand bytes at (map segment_row ss ++ others) → Within bytes at (length ss)
-segments_within bytes at [] others r h = omega arith
-segments_within bytes at (s ∷ ss) others r (w, l, h) = omega (arith, segments_within bytes (at + 48) ss others l h)
-
 module _ (tag bytes : List ℕ) (file at left : ℕ) (c : HeadsLeft tag bytes file at left) where
   -- a record is there
   pub heads_room : at + 48 ≤ length bytes
@@ -66,8 +58,8 @@ module _ (tag bytes : List ℕ) (file at left : ℕ) (c : HeadsLeft tag bytes fi
 
   module _ (w : Words) (read : w ≡ words_at bytes at) where
     -- the bookend: there is no such file
-    pub no_head : is_ones w.hash ≡ true → NoneThere tag bytes file
-    no_head e = record { accepted = c.accepted; found = subst Says (at_bookend file_heads bytes at c.later w read c.files c.sound c.stand e) c.says }
+    pub no_head : is_ones w.hash ≡ true → Seeks tag bytes file (Ok None)
+    no_head e = (c.accepted, subst Says (at_bookend file_heads bytes at c.later w read c.files c.sound c.stand e) c.says)
 
     module _ (e : is_ones w.hash ≡ false) where
       head : Head file_heads bytes at c.later w read c.files
@@ -77,29 +69,39 @@ module _ (tag bytes : List ℕ) (file at left : ℕ) (c : HeadsLeft tag bytes fi
       says = subst Says head.are c.says
 
       -- its segments are behind it
-      pub head_hit : left ≡ 0 → SegmentsThere tag bytes file (at + 48) w.b
-      head_hit z =
-          let ss : List Segment = head.block.segments in
-          let others : List Row = other_rows head.block ++ blocks_then file_block head.others c.later in
-          let t : Stand bytes (at + 48) (map segment_row ss ++ others) = subst (Stand bytes (at + 48)) (segments_first head.block (blocks_then file_block head.others c.later)) head.stand in
-          let n : w.b ≡ length ss = ap (λ (v : Words). v.b) head.words in
-          record {
-            accepted = c.accepted;
-            found = says ∙ ap (λ (m : ℕ). segments_at m (head.block ∷ head.others)) z ∙ ap some (sym (ap (segments_from bytes (at + 48)) n ∙ segments_read bytes (at + 48) ss others t));
-            within = rw n (segments_within bytes (at + 48) ss others heads_room t);
-          }
+      abbrev segments : List Segment
+      segments = head.block.segments
+
+      abbrev others : List Row
+      others = other_rows head.block ++ blocks_then file_block head.others c.later
+
+      count : w.b ≡ length segments
+      count = ap (λ (v : Words). v.b) head.words
+
+      rows : Stand bytes (at + 48) (map segment_row segments ++ others)
+      rows = subst (Stand bytes (at + 48)) (segments_first head.block (blocks_then file_block head.others c.later)) head.stand
+
+      pub segments_room : at + 48 + 48 * w.b ≤ length bytes
+      segments_room = stand_within bytes (at + 48) w.b segments others heads_room count rows
+
+      pub head_hit : left ≡ 0 → (part : List ℕ) → part ≡ take (at + 48 + 48 * w.b - (at + 48)) (drop (at + 48) bytes)
+          → IsAccepted (found_in tag bytes).verdict × (segments_in file (found_in tag bytes).records ≡ some (map segment_of (records part)))
+      head_hit z part e = (
+        c.accepted,
+        says ∙ ap (λ (m : ℕ). segments_at m (head.block ∷ head.others)) z ∙ ap some (sym (stand_read bytes (at + 48) w.b segments others heads_room count rows part e)),
+      )
 
       -- another one is sought: the next head is behind its records
-      pub next_head : (m : ℕ) → 0 < left → m ≡ further_records w.a w.b → HeadsLeft tag bytes file (at + 48 + 48 * m) (left - 1)
-      next_head m z u = record {
+      pub next_head : (m others_left : ℕ) → 0 < left → m ≡ further_records w.a w.b → others_left ≡ left - 1 → HeadsLeft tag bytes file (at + 48 * (1 + m)) others_left
+      next_head m others_left z u e = rw e (record {
         accepted = c.accepted;
         files = head.others;
         later = c.later;
         sound = head.sound;
-        stand = next_due file_heads bytes at c.later w read c.files head (at + 48 + 48 * m) (omega arith);
+        stand = next_due file_heads bytes at c.later w read c.files head (at + 48 * (1 + m)) (omega arith);
         says = says ∙ one_passed left z head.block head.others;
         short = c.short;
-      }
+      })
 
 -- ## Where it begins
 
@@ -119,8 +121,8 @@ heads_begin tag bytes file t b y =
 
 -- by the verdict at the last place
 module _ (tag bytes : List ℕ) (p : Place) (v : Verdict) (last : p ≡ last_place tag bytes) (said : v ≡ verdict_at p) where
-  pub seek_refused : (r : Refusal) → v ≡ verdict.Refused r → (found_in tag bytes).verdict ≡ verdict.Refused r
-  seek_refused r e = sym (verdict_is tag bytes p v last said) ∙ e
+  pub seek_refused : (r : Refusal) → v ≡ Err r → (file : ℕ) (x : Result (Option Segments) Refusal) → x ≡ Err r → Seeks tag bytes file x
+  seek_refused r e file x q = rw q (sym (verdict_is tag bytes p v last said) ∙ e)
 
-  pub seek_begins : (file : ℕ) → Bytes tag → Bytes bytes → (s : Summary) → v ≡ verdict.Accepted s → HeadsLeft tag bytes file 48 file
-  seek_begins file t b s e = heads_begin tag bytes file t b (subst IsAccepted (sym e ∙ verdict_is tag bytes p v last said) tt)
+  pub seek_begins : (file : ℕ) → Bytes tag → Bytes bytes → (s : Summary) → v ≡ Ok s → HeadsLeft tag bytes file 48 (file - 0)
+  seek_begins file t b s e = rw sub-zero (heads_begin tag bytes file t b (subst IsAccepted (sym e ∙ verdict_is tag bytes p v last said) tt))

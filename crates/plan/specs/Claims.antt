@@ -1,16 +1,14 @@
 -- THE CLAIMS OF THE PLAN, proved in proofs/RowClaims and proofs/PlanClaims: a row takes just the bytes that its segment and the range have in common, the
 -- rows together fetch just the range, and in an accepted shard the plan is that of the tree's file.
-use Rattle.std.specs.Prelude.{◌≡◌, ◌↔◌, ◌⊎◌, true, List, ℕ, ◌+◌, ◌-◌, ◌≤◌, ◌<◌, length, take, drop}
+use Rattle.std.specs.Prelude.{◌≡◌, ◌↔◌, ◌⊎◌, true, List, ℕ, ◌+◌, ◌-◌, ◌≤◌, ◌<◌, length, take, drop, Ok, Err}
 use Rattle.std.proofs.Math.Option.{none, some}
 use Rattle.words.specs.Le.{Bytes, part}
 use Rattle.words.specs.declared.Refusal.{Refusal}
-use Rattle.rules.specs.declared.Verdict.TheVariants as verdict
 use Rattle.layout.specs.Layout.{Hash, Segment, FileBlock, Shard, Each, sum_of, joined}
 use Rattle.layout.specs.Scan.{found_in}
 use Rattle.layout.specs.Claim.{Spells}
 use Rattle.plan.specs.Plan.{Extent, behind, shares, row_for, rows_for, file_bytes, segments_at, fetch, refused, refused_with, plan_for, plan_of, answer_to, table_to}
 use Rattle.plan.specs.declared.Row.{Row}
-use Rattle.plan.specs.declared.Planned.TheVariants as planned
 
 -- ## Rows
 
@@ -81,7 +79,7 @@ pub record Delivers (tag bytes : List ℕ) (file a b n : ℕ) (before table : Li
 
 pub record PlanClaim : Type 0 where
   -- a refused shard gives its refusal
-  pub refusal : (tag bytes : List ℕ) (file a b room : ℕ) (r : Refusal) → (found_in tag bytes).verdict ≡ verdict.Refused r → plan_of tag bytes file a b room ≡ refused r
+  pub refusal : (tag bytes : List ℕ) (file a b room : ℕ) (r : Refusal) → (found_in tag bytes).verdict ≡ Err r → plan_of tag bytes file a b room ≡ refused r
   -- an accepted one is spelled by a tree, and the plan is that of the tree's file
   pub shard : (tag bytes : List ℕ) (s : Shard) (file a b room : ℕ) → Bytes tag → length tag ≡ 32 → Spells tag s bytes → plan_of tag bytes file a b room ≡ plan_for (segments_at file s.files) a b room
   -- there is no such file exactly if the number is not below that of the files
@@ -96,5 +94,5 @@ pub record PlanClaim : Type 0 where
   -- a table of as many rows as the file has segments is long enough
   pub enough : (segments : List Segment) (a b room : ℕ) → InFile segments a b → length segments ≤ room → plan_for (some segments) a b room ≡ fetch (rows_for a b segments)
   -- rows that are answered deliver the stretch
-  pub delivers : (tag bytes : List ℕ) (file a b n : ℕ) (table : List Row) → Bytes tag → Bytes bytes → answer_to (plan_of tag bytes file a b (length table)) ≡ planned.Rows n
+  pub delivers : (tag bytes : List ℕ) (file a b n : ℕ) (table : List Row) → Bytes tag → Bytes bytes → answer_to (plan_of tag bytes file a b (length table)) ≡ Ok n
       → Delivers tag bytes file a b n table (table_to (plan_of tag bytes file a b (length table)) table)

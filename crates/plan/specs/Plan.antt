@@ -1,6 +1,6 @@
 -- THE PIECES TO FETCH for the bytes of one file from a up to but not including b, in an accepted shard; for any tag, any bytes, any numbers and any table.
 -- Numbers are natural numbers, and a difference below zero is 0.
-use Rattle.std.specs.Prelude.{ℕ, zero, suc, ◌+◌, ◌-◌, min, max, Bool, ◌&&◌, List, [], ◌∷◌, ◌++◌, map, leb, ltb, length, drop}
+use Rattle.std.specs.Prelude.{ℕ, zero, suc, ◌+◌, ◌-◌, min, max, Bool, ◌&&◌, List, [], ◌∷◌, ◌++◌, map, leb, ltb, length, drop, Result, Ok, Err}
 use Rattle.std.proofs.Math.Option.{Option, none, some}
 use Rattle.words.specs.Checks.{pick, ◌unless◌then◌}
 use Rattle.rules.specs.Kinds.{same_kind}
@@ -13,8 +13,6 @@ use Rattle.layout.specs.Layout.{Segment, FileBlock, sum_of}
 use Rattle.layout.specs.Blocks.{segment_of, leading}
 use Rattle.layout.specs.Scan.{found_in, if_accepted}
 use Rattle.plan.specs.declared.Row.{Row}
-use Rattle.plan.specs.declared.Planned.{Planned}
-use Rattle.plan.specs.declared.Planned.TheVariants as planned
 use Rattle.plan.specs.declared.PlannedNumbers.{PlannedNumbers}
 
 -- ## The rows
@@ -120,14 +118,14 @@ unfoldable pub plan_of : List ℕ → List ℕ → ℕ → ℕ → ℕ → ℕ �
 plan_of tag shard file a b room = if_accepted refused (found_in tag shard).verdict (λ s. plan_for (segments_in file (found_in tag shard).records) a b room)
 
 -- the number of rows, or the refusal
-abbrev pub answer_to : Plan → Planned
-answer_to (fetch rows) = planned.Rows (length rows)
-answer_to (refused refusal) = planned.Refused refusal
+abbrev pub answer_to : Plan → Result ℕ Refusal
+answer_to (fetch rows) = Ok (length rows)
+answer_to (refused refusal) = Err refusal
 
 -- the paper's numbers for each case: so many rows, or the refusal
-abbrev pub planned_numbers : Planned → PlannedNumbers
-planned_numbers (planned.Rows n) = record { rows = n; at = 0; number = 0 }
-planned_numbers (planned.Refused refusal) = record { rows = 0; at = refusal.at.0; number = refusal.number }
+abbrev pub planned_numbers : Result ℕ Refusal → PlannedNumbers
+planned_numbers (Ok n) = record { rows = n; at = 0; number = 0 }
+planned_numbers (Err refusal) = record { rows = 0; at = refusal.at.0; number = refusal.number }
 
 -- the table: the rows, and those beyond them as they were; refused, no row changes
 abbrev pub table_to : Plan → List Row → List Row

@@ -1,21 +1,18 @@
 -- WHAT THE INNER FUNCTIONS PROMISE, in the words of the plan. The range is counted from the first byte of the next segment, so that no sum is formed.
-use Rattle.std.specs.Prelude.{◌≡◌, ℕ, zero, suc, ◌+◌, ◌-◌, ◌*◌, min, ◌≤◌, List, [], ◌∷◌, ◌++◌, length, drop}
+use Rattle.std.specs.Prelude.{◌≡◌, ℕ, zero, suc, ◌-◌, ◌/◌, min, ◌≤◌, List, [], ◌∷◌, map, length, drop, Result, Ok, Err, Option, Some, None}
 use Rattle.std.proofs.Math.Option.{none, some}
 use Rattle.words.specs.Record.{words_at}
 use Rattle.words.specs.declared.Refusal.{Refusal}
-use Rattle.rules.specs.declared.Verdict.TheVariants as verdict
+use Rattle.words.specs.declared.Words.{Words}
 use Rattle.layout.specs.Layout.{Segment}
 use Rattle.layout.specs.Blocks.{segment_of}
 use Rattle.layout.specs.Scan.{found_in, IsAccepted}
-use Rattle.plan.specs.Plan.{segments_in, file_bytes, rows_for, plan_of, answer_to, table_to}
+use Rattle.plan.specs.Plan.{segments_in, rows_for, file_bytes, fetch, refused, plan_of}
 use Rattle.plan.specs.declared.Row.{Row}
-use Rattle.plan.specs.declared.Planned.TheVariants as planned
 use Rattle.plan.specs.declared.rows.Share.{Share}
-use Rattle.plan.specs.declared.rows.Cursor.{Cursor}
-use Rattle.plan.specs.declared.rows.NextRow.{NextRow}
+use Rattle.plan.specs.declared.rows.Rows.{Rows}
 use Rattle.plan.specs.declared.rows.Measure.{Measure}
-use Rattle.plan.specs.declared.files.Sought.{Sought}
-use Rattle.plan.specs.declared.files.Sought.TheVariants as sought
+use Rattle.plan.specs.declared.segments.Segments.{Segments}
 use Rattle.plan.specs.declared.drafts.Draft.{Draft}
 
 -- ## One segment
@@ -24,60 +21,46 @@ use Rattle.plan.specs.declared.drafts.Draft.{Draft}
 abbrev pub share_of : ℕ → ℕ → ℕ → Share
 share_of a b n = record { a = a - n; b = b - n; skip = min a n; take = min b n - min a n }
 
--- ## The segments that are left
+-- ## What is left
 
--- so many, one behind the other from a position on
-unfoldable pub segments_from : List ℕ → ℕ → ℕ → List Segment
-segments_from bytes at zero = []
-segments_from bytes at (suc n) = segment_of (words_at bytes at) ∷ segments_from bytes (at + 48) n
+-- so many records, one behind the other from the first byte on
+unfoldable pub records_of : ℕ → List ℕ → List Words
+records_of zero bytes = []
+records_of (suc n) bytes = words_at bytes 0 ∷ records_of n (drop 48 bytes)
 
--- they stand within the bytes
-abbrev pub Within : List ℕ → ℕ → ℕ → Type 0
-Within bytes at n = at + 48 * n ≤ length bytes
+-- as many as the bytes hold
+abbrev pub words_left : Segments → List Words
+words_left s = records_of (length s.bytes.now / 48) s.bytes.now
 
-abbrev pub segments_left : List ℕ → Cursor → List Segment
-segments_left bytes c = segments_from bytes c.at c.left
+abbrev pub segments_left : Segments → List Segment
+segments_left s = map segment_of (words_left s)
 
-abbrev pub rows_left : List ℕ → Cursor → List Row
-rows_left bytes c = rows_for c.a c.b (segments_left bytes c)
+abbrev pub rows_left : Rows → List Row
+rows_left r = rows_for r.a r.b (segments_left r.segments)
 
--- how many rows they need, and how much of the range lies past the last of them
-abbrev pub measure_of : List ℕ → Cursor → Measure
-measure_of bytes c = record { rows = length (rows_left bytes c); past = c.b - file_bytes (segments_left bytes c) }
+-- how much of the range lies past the last segment
+abbrev pub past_of : Rows → ℕ
+past_of r = r.b - file_bytes (segments_left r.segments)
 
--- the first of the rows that are left, and where the others are left
-pub record Gives (bytes : List ℕ) (c : Cursor) (n : NextRow) : Type 0 where
-  pub rows : rows_left bytes c ≡ n.row ∷ rows_left bytes n.cursor
-  pub within : Within bytes n.cursor.at n.cursor.left
+abbrev pub measure_of : Rows → Measure
+measure_of r = record { rows = length (rows_left r); past = past_of r }
+
+-- the first row that was left, and behind it the others; or none, and what is left of the range is past the last segment
+abbrev pub Gives : Rows → Option Row → Rows → Type 0
+Gives r (Some row) later = (rows_left r ≡ row ∷ rows_left later) × (past_of later ≡ past_of r)
+Gives r None later = (rows_left r ≡ []) × (rows_left later ≡ []) × (later.b ≡ past_of r)
 
 -- ## A file by its number
 
--- its segments are these
-pub record SegmentsThere (tag bytes : List ℕ) (file at n : ℕ) : Type 0 where
-  pub accepted : IsAccepted (found_in tag bytes).verdict
-  pub found : segments_in file (found_in tag bytes).records ≡ some (segments_from bytes at n)
-  pub within : Within bytes at n
-
-pub record NoneThere (tag bytes : List ℕ) (file : ℕ) : Type 0 where
-  pub accepted : IsAccepted (found_in tag bytes).verdict
-  pub found : segments_in file (found_in tag bytes).records ≡ none
-
-abbrev pub Seeks : List ℕ → List ℕ → ℕ → Sought → Type 0
-Seeks tag bytes file (sought.At at n) = SegmentsThere tag bytes file at n
-Seeks tag bytes file sought.Absent = NoneThere tag bytes file
-Seeks tag bytes file (sought.Refused refusal) = (found_in tag bytes).verdict ≡ verdict.Refused refusal
+-- in an accepted shard its segments are these, or there is none; or the shard's refusal
+abbrev pub Seeks : List ℕ → List ℕ → ℕ → Result (Option Segments) Refusal → Type 0
+Seeks tag bytes file (Ok (Some s)) = IsAccepted (found_in tag bytes).verdict × (segments_in file (found_in tag bytes).records ≡ some (segments_left s))
+Seeks tag bytes file (Ok None) = IsAccepted (found_in tag bytes).verdict × (segments_in file (found_in tag bytes).records ≡ none)
+Seeks tag bytes file (Err refusal) = (found_in tag bytes).verdict ≡ Err refusal
 
 -- ## The draft
 
--- nothing is to be filled
-abbrev pub refused_draft : Refusal → Draft
-refused_draft refusal = record { count = 0; cursor = record { at = 0; a = 0; b = 0; left = 0 }; answer = planned.Refused refusal }
-
-pub record Drafts (tag bytes : List ℕ) (file a b room : ℕ) (d : Draft) : Type 0 where
-  pub answers : d.answer ≡ answer_to (plan_of tag bytes file a b room)
-  pub within : Within bytes d.cursor.at d.cursor.left
-  -- so many rows are left where it begins, and they fit
-  pub counts : d.count ≡ length (rows_left bytes d.cursor)
-  pub fits : d.count ≤ room
-  -- once they are filled, the table is the one that is to be
-  pub fills : (table : List Row) → table_to (plan_of tag bytes file a b room) table ≡ rows_left bytes d.cursor ++ drop d.count table
+-- the rows of the plan, so many, and they fit; or its refusal
+abbrev pub Drafts : List ℕ → List ℕ → ℕ → ℕ → ℕ → ℕ → Result Draft Refusal → Type 0
+Drafts tag bytes file a b room (Ok d) = (plan_of tag bytes file a b room ≡ fetch (rows_left d.rows)) × (d.count ≡ length (rows_left d.rows)) × (d.count ≤ room)
+Drafts tag bytes file a b room (Err refusal) = plan_of tag bytes file a b room ≡ refused refusal

@@ -3,6 +3,7 @@
 #![tactic(auto)]
 
 use std::io;
+use told::Quay;
 
 mod cases;
 mod large;
@@ -11,8 +12,11 @@ mod shard;
 mod told;
 
 fn main(rt: HostRuntime) -> io::Result<()> {
-    let mut out = io::writer(&rt);
-    cases::run(&mut out)?;
-    orders::run(&mut out)?;
-    large::run(&mut out)
+    let mut quay = Quay {
+        out: io::writer(&rt),
+        alloc: rt.alloc(),
+    };
+    cases::run(&mut quay)?;
+    orders::run(&mut quay)?;
+    large::run(&mut quay)
 }

@@ -1,17 +1,20 @@
 -- A call of the reader is a call on the state that it stands for, because the carry has the bytes so far and the place holds every number as it is. Assumes nothing.
+use Rattle.std.specs.Prelude.{Option, Some, None, Result, Ok}
 use mathlib.Core.Path.{◌≡◌, refl, sym, ap, ap₂, ◌∙◌, subst}
 use mathlib.Core.Logic.{◌⊎◌, inl, inr}
 use mathlib.Core.Bool.{Bool, true, false}
 use mathlib.Core.List.{List, [], ◌∷◌, ◌++◌}
-use Prim.Native.Nat.{ℕ, zero, suc, ◌+◌, ◌-◌, ◌≤◌, ◌<◌}
+use Prim.Native.Nat.{ℕ, ◌+◌, ◌-◌, ◌≤◌, ◌<◌}
 use native.Mathlib.Omega.{arith}
 use lib.Dec.{ltb}
 use lib.ListN.{length, take, replicate, length-append, length-take}
 use lib.Seq.{take-length}
-use borrow.Author.Tests.{ne_eqb, ltb-true, ltb-false}
+use borrow.Author.Tests.{ltb-true, ltb-false}
+use Rattle.words.specs.Checks.{if_fine}
 use Rattle.words.specs.Record.{tag_at}
 use Rattle.words.specs.declared.Words.{Words}
 use Rattle.words.specs.declared.Tag.{Tag}
+use Rattle.words.specs.declared.Refusal.{Refusal}
 use Rattle.cut.specs.Format.{State, at, stopped, settle}
 use Rattle.cut.specs.Calls.{end_step, step}
 use Rattle.cut.specs.Calls as cut
@@ -22,17 +25,14 @@ use Rattle.rules.specs.declared.Place.{Place}
 use Rattle.rules.specs.declared.Record.{Record}
 use Rattle.rules.specs.declared.Due.{Due}
 use Rattle.rules.specs.declared.Due.TheVariants.{End, Refused}
-use Rattle.rules.specs.declared.Verdict.{Verdict}
-use Rattle.rules.specs.declared.Verdict.TheVariants as verdict
+use Rattle.rules.specs.Verdicts.{Verdict}
 use Rattle.layout.specs.Scan.{format}
 use Rattle.layout.specs.Scan as scan
 use Rattle.layout.specs.Reach.{Reached, place_of}
 use Rattle.layout.proofs.Reach.{exact}
-use Rattle.reader.specs.Stream.{emptied, no_record, settled, unless_refused, stopped_by, whole_in, step_of, tag_in}
+use Rattle.reader.specs.Stream.{emptied, settled, unless_refused, stopped_by, heard_in, whole_in, step_of, tag_in}
 use Rattle.reader.specs.Readings.{reader_of}
 use Rattle.reader.specs.declared.Reader.{Reader}
-use Rattle.reader.specs.declared.Said.{Said}
-use Rattle.reader.specs.declared.Said.TheVariants as said
 use Rattle.reader.specs.declared.Step.{Step}
 use Rattle.carry.proofs.Sizes.{size_most}
 use Rattle.carry.proofs.Carry.{put_carry, words_own, fault_own}
@@ -40,17 +40,13 @@ use Rattle.reader.proofs.Calls.{step_none, step_kept, step_completed, again, ver
 
 -- ## What a step on states is, as the reader's own
 
-abbrev said_of : List Record → State Place Place → Said
-said_of (r ∷ rs) s = said.Record
-said_of [] (at p h) = said.Nothing
-said_of [] (stopped p) = unless_refused said.Nothing (verdict_at p)
-
-abbrev first_of : List Record → Record
-first_of (r ∷ rs) = r
-first_of [] = no_record
+abbrev found_of : List Record → State Place Place → Result (Option Record) Refusal
+found_of (r ∷ rs) s = Ok (Some r)
+found_of [] (at p h) = Ok None
+found_of [] (stopped p) = unless_refused None (verdict_at p)
 
 abbrev pub out_of : Tag → cut.Step Place Record Place → Step
-out_of tag o = record { reader = reader_of tag o.out.state; answer = record { taken = o.taken; found = first_of o.out.recs; said = said_of o.out.recs o.out.state } }
+out_of tag o = record { reader = reader_of tag o.out.state; answer = record { taken = o.taken; found = found_of o.out.recs o.out.state } }
 
 -- what is known of a state that reading gives: bytes are held only where more are due, nothing is due only at the end,
 -- and one that has stopped holds its refusal; the tag is one of 32 bytes, unless the reading stopped at once
@@ -62,14 +58,13 @@ Known tag (stopped p) = (number : ℕ) × (p.due ≡ Refused number)
 
 settled_out : (r : Reader) (w : Words) (number taken : ℕ)
     → Reached (place_of (settle (scan.settled number r.stand.place (record_of r.stand.place w) (next_of r.stand.place w))).state)
-    → settled r.stand w number taken ≡ out_of r.stand.tag (record { taken = taken; out = settle (scan.settled number r.stand.place (record_of r.stand.place w) (next_of r.stand.place w)) })
+    → settled r.stand (if_fine number w) taken ≡ out_of r.stand.tag (record { taken = taken; out = settle (scan.settled number r.stand.place (record_of r.stand.place w) (next_of r.stand.place w)) })
 unfolding verdict_at
-settled_out r w zero taken k = rw (exact (next_of r.stand.place w) k)
-settled_out r w (suc n) taken k = rw (ne_eqb (suc n) 0 (λ e. omega arith))
+settled_out r w number taken k = let e = exact (next_of r.stand.place w) in grind arith
 
 -- ## One call
 
-verdict_end : (p : Place) → p.due ≡ End → verdict_at p ≡ verdict.Accepted (summary_of p)
+verdict_end : (p : Place) → p.due ≡ End → verdict_at p ≡ Ok (summary_of p)
 unfolding verdict_at
 verdict_end p e = ap (λ (d : Due). verdict_by d p) e
 
@@ -79,10 +74,9 @@ stopped_out tag four p piece number e =
     rw (step_stopped (format four) p piece, again (emptied tag p) piece _ (ap size_by e) v, v)
 
 module _ (tag : Tag) (p : Place) where
-  ended_out : (n : ℕ) (piece : List ℕ) → length piece ≡ n → stopped_by (verdict.Accepted (summary_of p)) (reader_of tag (at p [])) n ≡ out_of tag (end_step (format tag) p [] piece)
+  ended_out : (n : ℕ) (piece : List ℕ) → length piece ≡ n → stopped_by (Ok (summary_of p)) (reader_of tag (at p [])) n ≡ out_of tag (end_step (format tag) p [] piece)
   unfolding verdict_at
-  ended_out n [] e = rw (← e)
-  ended_out n (b ∷ bs) e = rw (ne_eqb n 0 (λ z. omega arith))
+  ended_out n piece e = grind arith
 
   end_out : (piece : List ℕ) → p.due ≡ End → step_of (reader_of tag (at p [])) piece ≡ out_of tag (step (format tag) (at p []) piece)
   end_out piece e =
@@ -111,8 +105,8 @@ module _ (tag : Tag) (p : Place) where
       let s : step (format tag) (at p h) piece ≡ record { taken = n; out = settle (scan.settled (fault_in tag p bs) p (record_of p (words_in p bs)) (next_of p (words_in p bs))) } =
       step_full (format tag) p h piece l g in
       step_completed r piece (omega arith) m
-      ∙ ap (λ (x : List ℕ). settled r.stand (words_in p x) (fault_in tag p x) n) c
-      ∙ ap₂ (λ (w : Words) (f : ℕ). settled r.stand w f n) (words_own p bs z (omega arith) q) (fault_own p bs z (omega arith) q tag)
+      ∙ ap (λ (x : List ℕ). settled r.stand (heard_in r.stand x) n) c
+      ∙ ap₂ (λ (w : Words) (f : ℕ). settled r.stand (if_fine f w) n) (words_own p bs z (omega arith) q) (fault_own p bs z (omega arith) q tag)
       ∙ settled_out r (words_in p bs) (fault_in tag p bs) n (subst (λ (o : cut.Step Place Record Place). Reached (place_of o.out.state)) s k)
       ∙ ap (out_of tag) (sym s)
 

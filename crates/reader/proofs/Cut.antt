@@ -1,66 +1,39 @@
 -- THE CUT THEOREM of the reader: it is that of the states (crate cut), since each call is a call on the state that the reader stands for. Assumes nothing.
 use mathlib.Core.Path.{◌≡◌, refl, sym, ap, ◌∙◌, subst}
-use mathlib.Core.Bool.{Bool, true, false}
-use mathlib.Core.List.{List, [], ◌∷◌, ◌++◌, append-nil}
-use Prim.Native.Nat.{ℕ, zero, suc, ◌+◌, ◌-◌, ◌<◌, min}
+use mathlib.Core.List.{List, [], ◌∷◌, append-nil}
+use Prim.Native.Nat.{ℕ, zero, suc, ◌+◌, ◌<◌}
 use native.Mathlib.Omega.{arith}
-use lib.Dec.{eqb, ltb}
-use lib.ListN.{length, take, drop}
+use lib.ListN.{length, drop}
 use lib.Seq.{get_or-drop}
-use Rattle.words.specs.Checks.{pick}
 use Rattle.words.specs.Le.{Bytes}
 use Rattle.words.specs.Record.{tag_at}
 use Rattle.words.specs.declared.Tag.{Tag}
-use Rattle.cut.specs.Format.{Judged, good, bad, State, at, stopped, settle, fill, run}
-use Rattle.cut.specs.Calls.{joined, end_step, in_step, step, feed, offered, looked, looked_all}
+use Rattle.cut.specs.Format.{Judged, State, at, stopped, settle, fill, run}
+use Rattle.cut.specs.Calls.{joined, step, feed, offered, looked, looked_all}
 use Rattle.words.proofs.Numbers.{bytes_none, bytes_append}
 use Rattle.cut.proofs.Runs.{run_nil, run_append}
 use Rattle.cut.proofs.Cut.{feed_run}
-use Rattle.rules.specs.Rules.{size_of, nothing}
-use Rattle.rules.specs.Verdicts.{refused, verdict_at}
+use Rattle.rules.specs.Rules.{nothing}
 use Rattle.rules.specs.declared.Place.{Place}
 use Rattle.rules.specs.declared.Record.{Record}
-use Rattle.rules.specs.declared.Verdict.{Verdict}
-use Rattle.rules.specs.declared.Verdict.TheVariants as verdict
 use Rattle.layout.specs.Scan.{judged, format, begin, scan, found_in}
 use Rattle.layout.specs.Scan as scan
 use Rattle.layout.specs.Reach.{place_of, last_place, totals_with}
 use Rattle.layout.proofs.Judged.{bytes_left, bytes_right}
 use Rattle.layout.proofs.States.{states, calls}
-use Rattle.reader.specs.Stream.{tag_in, no_record, unless_refused, fresh, verdict_of}
-use Rattle.reader.specs.Readings.{record_by, handed_out, Seen, offers, fed, called, reader_of, seen_of, looked_at, CutClaim, CallsClaim}
-use Rattle.reader.specs.declared.Said.TheVariants as said
+use Rattle.reader.specs.Stream.{tag_in, fresh, verdict_of}
+use Rattle.reader.specs.Readings.{handed_out, Seen, offers, fed, called, reader_of, seen_of, looked_at, CutClaim, CallsClaim}
 use Rattle.reader.proofs.Bridge.{out_of}
 use Rattle.reader.proofs.Reached.{looked_bytes, Standing, standing_begin, fits, standing_run, standing_step, reader_step, fresh_begin}
 
 -- ## A call hands out the records of its step
 
-silence : (v : Verdict) → record_by (unless_refused said.Nothing v) no_record ≡ []
-silence (verdict.Accepted summary) = refl
-silence (verdict.Refused refusal) = refl
-
 handed_settle : (tag : Tag) (taken : ℕ) (j : Judged Place Record Place) → handed_out (out_of tag (record { taken = taken; out = settle j })) ≡ (settle j).recs
-handed_settle tag taken (good q r) = refl
-handed_settle tag taken (bad q) = silence (verdict_at q)
+handed_settle tag taken j = grind arith
 
 handed_step : (tag four : Tag) (s : State Place Place) (piece : List ℕ) → handed_out (out_of tag (step (format four) s piece)) ≡ (step (format four) s piece).out.recs
 unfolding step fill
-handed_step tag four (stopped p) piece = silence (verdict_at p)
-handed_step tag four (at p h) piece = go (eqb (size_of p) 0) piece
-  where
-    n : List ℕ → ℕ
-    n piece = min (length piece) (size_of p - length h)
-
-    in_out : (piece : List ℕ) (t : Bool) → handed_out (out_of tag (record { taken = n piece; out = pick t (record { recs = []; state = at p (h ++ take (n piece) piece) }) (settle (judged four p (h ++ take (n piece) piece))) }))
-        ≡ (pick t (record { recs = []; state = at p (h ++ take (n piece) piece) }) (settle (judged four p (h ++ take (n piece) piece)))).recs
-    in_out piece true = refl
-    in_out piece false = handed_settle tag (n piece) (judged four p (h ++ take (n piece) piece))
-
-    go : (t : Bool) (piece : List ℕ) → handed_out (out_of tag (pick t (end_step (format four) p h piece) (in_step (format four) p h piece (n piece))))
-        ≡ (pick t (end_step (format four) p h piece) (in_step (format four) p h piece (n piece))).out.recs
-    go true [] = refl
-    go true (b ∷ bs) = silence (verdict_at (refused 14 p))
-    go false piece = in_out piece (ltb (length (h ++ take (n piece) piece)) (size_of p))
+handed_step tag four s piece = grind (arith, handed_settle)
 
 -- ## Calls for one piece, pieces, and any calls
 

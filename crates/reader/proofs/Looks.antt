@@ -1,37 +1,37 @@
 -- The turns of a read: each is one call of `reads_on`, because it judges the bytes that the carry has and those behind them, and nothing is carried after a
 -- record; and the bytes taken and the rows filled stay within what is there. Assumes nothing.
+use Rattle.std.specs.Prelude.{Option, Some, None, Result, Ok, Err}
 use mathlib.Core.Path.{◌≡◌, refl, sym, ap, ◌∙◌}
 use mathlib.Core.Logic.{◌⊎◌, inl, inr}
 use mathlib.Core.Bool.{Bool, true, false}
-use mathlib.Core.List.{List}
+use mathlib.Core.List.{List, []}
 use Prim.Native.Nat.{ℕ, zero, suc, ◌+◌, ◌-◌, ◌*◌, ◌/◌, ◌≤◌, ◌<◌}
 use native.Mathlib.Nat.{not-suc-le-zero, sub-zero}
 use native.Mathlib.Numerals.{sub-one}
 use native.Mathlib.Omega.{arith}
-use lib.Dec.{eqb, ltb}
 use lib.ListN.{length, take, drop, length-drop}
 use lib.Seq.{paste, take_all}
-use borrow.Author.Tests.{ne_eqb, eqb-true, eqb-false, ltb-true, ltb-false}
-use Rattle.words.specs.Checks.{pick}
+use borrow.Author.Tests.{ne_eqb}
 use Rattle.words.specs.Le.{puts}
 use Rattle.words.specs.declared.Words.{Words}
-use Rattle.words.proofs.Stores.{length_puts}
-use Rattle.rules.specs.Rules.{size_of, words_in, fault_in, next_of, record_of}
+use Rattle.words.specs.declared.Refusal.{Refusal}
+use Rattle.rules.specs.Rules.{size_of, next_of, record_of}
 use Rattle.rules.specs.Held.{held}
-use Rattle.rules.specs.Verdicts.{verdict_at}
+use Rattle.rules.specs.Verdicts.{refusal_at}
 use Rattle.rules.specs.declared.Place.{Place}
-use Rattle.rules.specs.declared.Verdict.{Verdict}
-use Rattle.rules.specs.declared.Verdict.TheVariants as verdict
+use Rattle.rules.specs.declared.Record.{Record}
 use Rattle.carry.proofs.Carry.{words_any, fault_any}
-use Rattle.reader.specs.Stream.{passed_by, settled, stopped_by, said_at, lacking, lent, halt_by, step_of}
-use Rattle.reader.specs.Rows.{row_in, is_record, answered, ended_by, Reading, next_step, reads_on, read_for}
-use Rattle.reader.specs.Looks.{HandsNone, Foretells, SameFor, carry_after}
+use Rattle.reader.specs.Stream.{passed_by, failed_by, settled, said_at, lacking, heard_in, lent, halt_by, step_of}
+use Rattle.reader.specs.Rows.{row_in, goes_on, answered, ended_by, Reading, next_step, reads_on, read_for}
+use Rattle.reader.specs.Readings.{record_by, handed_out}
+use Rattle.reader.specs.Looks.{Foretells, SameFor, carry_after, ended_with}
 use Rattle.reader.specs.declared.Stand.{Stand}
 use Rattle.reader.specs.declared.Reader.{Reader}
 use Rattle.reader.specs.declared.Step.{Step}
-use Rattle.reader.specs.declared.Said.TheVariants as said
-use Rattle.reader.specs.declared.reading.Look.{Look}
-use Rattle.reader.proofs.Calls.{either, step_none, step_kept, step_settled}
+use Rattle.reader.specs.declared.Ended.{Ended}
+use Rattle.reader.specs.declared.Ended.TheVariants.{TableFull}
+use Rattle.reader.specs.declared.reading.Whole.{Whole}
+use Rattle.reader.proofs.Calls.{no_more, step_settled}
 
 -- a piece from a position on, as it is lent
 pub rest_all : (piece : List ℕ) (at : ℕ) → take (length piece - at) (drop at piece) ≡ drop at piece
@@ -39,29 +39,28 @@ rest_all piece at = take_all (length piece - at) (drop at piece) (simp length-dr
 
 -- ## The turns of the definition
 
+goes_none : {A : Type 0} (x : Result (Option Record) Refusal) (on : Record → A) (over : Result Ended Refusal → A) → record_by x ≡ [] → goes_on x on over ≡ over (ended_with x)
+goes_none x on over e = grind arith
+
 full_by : (left : ℕ) (r : Reader) (piece : List ℕ) (taken count : ℕ) (table : List ℕ) → left ≤ 0
-    → reads_on left r piece taken count table ≡ record { answer = answered r taken count (said_at said.Record r.stand.place); table = table }
+    → reads_on left r piece taken count table ≡ record { answer = answered r taken count (said_at TableFull r.stand.place); table = table }
 unfolding reads_on
 full_by zero r piece taken count table h = refl
 full_by (suc left) r piece taken count table h = absurd (not-suc-le-zero h)
 
-over_by : (left : ℕ) (r : Reader) (piece : List ℕ) (taken count : ℕ) (table : List ℕ) → 0 < left → (s : Step) → next_step r piece taken ≡ s → is_record s.answer.said ≡ false
-    → reads_on left r piece taken count table ≡ record { answer = ended_by s taken count; table = table }
+over_by : (left : ℕ) (r : Reader) (piece : List ℕ) (taken count : ℕ) (table : List ℕ) → 0 < left → (s : Step) → next_step r piece taken ≡ s → handed_out s ≡ []
+    → reads_on left r piece taken count table ≡ record { answer = ended_by s taken count (ended_with s.answer.found); table = table }
 unfolding reads_on
 over_by zero r piece taken count table h s e t = absurd (not-suc-le-zero h)
-over_by (suc left) r piece taken count table h s e t = rw (e, t)
+over_by (suc left) r piece taken count table h s e t = rw e (goes_none s.answer.found _ _ t)
 
-on_by : (left : ℕ) (r : Reader) (piece : List ℕ) (taken count : ℕ) (table : List ℕ) → 0 < left → (s : Step) → next_step r piece taken ≡ s → is_record s.answer.said ≡ true
-    → reads_on left r piece taken count table ≡ reads_on (left - 1) s.reader piece (taken + s.answer.taken) (count + 1) (puts table (9 * count) (row_in s.answer.found))
+on_by : (left : ℕ) (r : Reader) (piece : List ℕ) (taken count : ℕ) (table : List ℕ) → 0 < left → (s : Step) → next_step r piece taken ≡ s → (found : Record) → s.answer.found ≡ Ok (Some found)
+    → reads_on left r piece taken count table ≡ reads_on (left - 1) s.reader piece (taken + s.answer.taken) (count + 1) (puts table (9 * count) (row_in found))
 unfolding reads_on
-on_by zero r piece taken count table h s e t = absurd (not-suc-le-zero h)
-on_by (suc left) r piece taken count table h s e t = rw (e, t, sub-one)
+on_by zero r piece taken count table h s e found t = absurd (not-suc-le-zero h)
+on_by (suc left) r piece taken count table h s e found t = rw (e, t, sub-one)
 
 -- ## A call that finds no whole record hands out none
-
-silent_end : (v : Verdict) (r : Reader) (n : ℕ) → is_record (stopped_by v r n).answer.said ≡ false
-silent_end (verdict.Refused refusal) r n = refl
-silent_end (verdict.Accepted summary) r n = either (λ (s : Step). is_record s.answer.said ≡ false) (eqb n 0) refl refl
 
 module _ (r : Reader) (rest : List ℕ) where
   -- nothing is due, or the piece is too short
@@ -69,35 +68,22 @@ module _ (r : Reader) (rest : List ℕ) where
   Halts = (size_of r.stand.place ≡ 0) ⊎ (length rest < lacking r.stand)
 
   halts : halt_by (size_of r.stand.place) (lacking r.stand) (length rest) ≡ true → Halts
-  halts e = go (eqb (size_of r.stand.place) 0) refl e
-    where
-      go : (t : Bool) → eqb (size_of r.stand.place) 0 ≡ t → pick t true (ltb (length rest) (lacking r.stand)) ≡ true → Halts
-      go true i k = inl (eqb-true _ _ i)
-      go false i k = inr (ltb-true _ _ k)
+  halts e = grind arith
 
-  pub halt_short : halt_by (size_of r.stand.place) (lacking r.stand) (length rest) ≡ true → (size_of r.stand.place ≡ 0 → ⊥) → length rest < lacking r.stand
-  halt_short e n = go (halts e)
-    where
-      go : Halts → length rest < lacking r.stand
-      go (inl z) = absurd (n z)
-      go (inr l) = l
-
-  halt_silent : halt_by (size_of r.stand.place) (lacking r.stand) (length rest) ≡ true → is_record (step_of r rest).answer.said ≡ false
-  halt_silent e = go (halts e)
-    where
-      go : Halts → is_record (step_of r rest).answer.said ≡ false
-      go (inl z) = rw (step_none r rest z) (silent_end (verdict_at r.stand.place) r (length rest))
-      go (inr l) = rw (step_kept r rest l)
+  halt_silent : halt_by (size_of r.stand.place) (lacking r.stand) (length rest) ≡ true → handed_out (step_of r rest) ≡ []
+  unfolding step_of
+  halt_silent e = grind arith
 
 -- else all of it is there
 whole_there : (size lacks left : ℕ) → halt_by size lacks left ≡ false → (0 < size) × (lacks ≤ left)
-whole_there size lacks left e = go (eqb size 0) refl e
-  where
-    go : (t : Bool) → eqb size 0 ≡ t → pick t true (ltb left lacks) ≡ false → (0 < size) × (lacks ≤ left)
-    go true i k = let m : ◌≡◌ {A = ℕ} 0 1 = cc in absurd (omega arith)
-    go false i k = let z : size ≡ 0 → ⊥ = eqb-false _ _ i in (omega arith, ltb-false _ _ k)
+whole_there size lacks left e = grind arith
 
 -- ## What a look foretells
+
+-- what is seen of a whole record
+abbrev pub seen_in : Result Words ℕ → ℕ → Result (Option Whole) ℕ
+seen_in (Ok w) lacks = Ok (Some (record { words = w; lacks = lacks }))
+seen_in (Err number) lacks = Err number
 
 module _ (s : Stand) (rest : List ℕ) {size lacks : ℕ} {t : Bool} (e : size ≡ size_of s.place) (m : lacks ≡ size - s.have) (h : t ≡ halt_by size lacks (length rest)) where
   lack : lacks ≡ lacking s
@@ -106,83 +92,74 @@ module _ (s : Stand) (rest : List ℕ) {size lacks : ℕ} {t : Bool} (e : size �
   pub none_there : t ≡ true → halt_by (size_of s.place) (lacking s) (length rest) ≡ true
   none_there i = rw (← lack, ← e) (sym h ∙ i)
 
-  pub all_there : t ≡ false → (lacks ≡ lacking s) × (0 < size_of s.place) × (lacks ≤ length rest)
-  all_there i = let w = whole_there size lacks (length rest) (sym h ∙ i) in (lack, rw e at w.0, w.1)
-
-  pub none_foretells : t ≡ true → {x : Look} → x.good ≡ false → x.number ≡ 0 → (carry : List ℕ) → Foretells (lent s carry) rest x
-  none_foretells i {x} g z carry = record {
-    good = λ j. let m : ◌≡◌ {A = ℕ} 0 1 = cc in absurd (omega arith);
-    other = λ j. record { none = λ k. none_there i; faulty = λ n. absurd (n z) };
-  }
-
   module _ (i : t ≡ false) where
     there : (lacks ≡ lacking s) × (0 < size_of s.place) × (lacks ≤ length rest)
-    there = all_there i
+    there = let w = whole_there size lacks (length rest) (sym h ∙ i) in (lack, rw e at w.0, w.1)
 
     -- where nothing of the carry is looked at, the piece alone is judged
-    module _ (z : s.have ≡ 0) where
-      size_is : lacks ≡ size_of s.place
-      size_is = there.0 ∙ rw (z, sub-zero)
+    heard_same : s.have ≡ 0 → (c c' : List ℕ) → heard_in s (paste c s.have rest lacks) ≡ heard_in s (paste c' s.have rest lacks)
+    heard_same z c c' =
+        let q : lacks ≡ size_of s.place = there.0 ∙ rw (z, sub-zero) in
+        let l : size_of s.place ≤ length rest = rw q at there.2 in
+        rw (z, q, words_any s.place there.1 rest l c c', fault_any s.place there.1 rest l s.tag c c')
 
-      fits : size_of s.place ≤ length rest
-      fits = rw size_is at there.2
+    module _ {carry : List ℕ} {x : Result Words ℕ} (u : x ≡ heard_in s (paste carry s.have rest lacks)) where
+      settles : (other : List ℕ) → SameFor s.have carry other → step_of (lent s other) rest ≡ settled s x lacks
+      settles other (inl z) = step_settled (lent s other) rest there.1 there.0 there.2 (u ∙ heard_same z carry other)
+      settles other (inr q) = step_settled (lent s other) rest there.1 there.0 there.2 (u ∙ ap (λ (c : List ℕ). heard_in s (paste c s.have rest lacks)) q)
 
-      words_same : (c c' : List ℕ) → words_in s.place (paste c s.have rest lacks) ≡ words_in s.place (paste c' s.have rest lacks)
-      words_same c c' = rw (z, size_is) (words_any s.place there.1 rest fits c c')
-
-      fault_same : (c c' : List ℕ) → fault_in s.tag s.place (paste c s.have rest lacks) ≡ fault_in s.tag s.place (paste c' s.have rest lacks)
-      fault_same c c' = rw (z, size_is) (fault_any s.place there.1 rest fits s.tag c c')
-
-    module _ {carry : List ℕ} {w : Words} (u : w ≡ words_in s.place (paste carry s.have rest lacks)) {number : ℕ} (v : number ≡ fault_in s.tag s.place (paste carry s.have rest lacks)) where
-      settles : (other : List ℕ) → SameFor s.have carry other → step_of (lent s other) rest ≡ settled s w number lacks
-      settles other (inl z) = step_settled (lent s other) rest there.1 there.0 there.2 (u ∙ words_same z carry other) (v ∙ fault_same z carry other)
-      settles other (inr q) =
-          step_settled (lent s other) rest there.1 there.0 there.2
-          (u ∙ ap (λ (c : List ℕ). words_in s.place (paste c s.have rest lacks)) q) (v ∙ ap (λ (c : List ℕ). fault_in s.tag s.place (paste c s.have rest lacks)) q)
-
-      pub whole_foretells : {x : Look} → x ≡ record { words = w; lacks = lacks; number = number; good = eqb number 0 }
-          → (other : List ℕ) → SameFor s.have carry other → Foretells (lent s other) rest x
-      whole_foretells q other f = rw q (record {
-        good = λ j. (there.2, settles other f ∙ rw j);
-        other = λ j. record { none = λ z. absurd (eqb-false _ _ j z); faulty = λ n. (rw there.0 at there.2, settles other f ∙ rw (j, there.0)) };
-      })
-
--- a call that hands out no record says so
-silent_then : (r : Reader) (rest : List ℕ) (number : ℕ) → HandsNone r rest number → is_record (step_of r rest).answer.said ≡ false
-silent_then r rest zero n = halt_silent r rest (n.none refl)
-silent_then r rest (suc k) n = rw (n.faulty (λ e. omega arith)).1
+      pub whole_foretells : (other : List ℕ) → SameFor s.have carry other → Foretells (lent s other) rest (seen_in x lacks)
+      whole_foretells other f =
+          let q = settles other f in
+          let w = there in
+          grind arith
 
 -- ## The loop
 
--- a state of the loop: room for the rows left, no byte taken that is not there, nothing carried once a row is filled, and what is still read is what all of it reads
-pub record Loop (carry piece table₀ : List ℕ) (all : Reading) (s : Stand) (table : List ℕ) (taken count left : ℕ) : Type 0 where
-  pub room : 9 * count + 9 * left ≤ length table₀
-  pub same : length table ≡ length table₀
+pub within : (r : Reader) (piece : List ℕ) (taken : ℕ) → taken ≤ length piece → taken + (next_step r piece taken).answer.taken ≤ length piece
+within r piece taken l = omega (arith, l, rw length-drop at (no_more r (drop taken piece)))
+
+-- a state of the loop: no byte taken that is not there, nothing carried once a row is filled, and what is still read is what all of it reads
+pub record Loop (carry piece : List ℕ) (all : Reading) (s : Stand) (table : List ℕ) (taken count rows : ℕ) : Type 0 where
   pub inside : taken ≤ length piece
   pub front : SameFor s.have carry (carry_after count carry)
-  pub rest : reads_on left (lent s (carry_after count carry)) piece taken count table ≡ all
+  pub rest : reads_on (rows - count) (lent s (carry_after count carry)) piece taken count table ≡ all
 
-pub begins : (s : Stand) (carry piece table : List ℕ) → Loop carry piece table (read_for (lent s carry) piece table) s table 0 0 (length table / 9)
+pub begins : (s : Stand) (carry piece table : List ℕ) → Loop carry piece (read_for (lent s carry) piece table) s table 0 0 (length table / 9)
 unfolding read_for
-begins s carry piece table = record { room = omega arith; same = refl; inside = omega arith; front = inr refl; rest = refl }
+begins s carry piece table = record { inside = omega arith; front = inr refl; rest = rw sub-zero }
 
-module _ {carry piece table₀ : List ℕ} {all : Reading} {s : Stand} {table : List ℕ} {taken count left : ℕ} (l : Loop carry piece table₀ all s table taken count left) where
+module _ {carry piece : List ℕ} {all : Reading} {s : Stand} {table : List ℕ} {taken count rows : ℕ} (l : Loop carry piece all s table taken count rows) where
   abbrev r : Reader
   r = lent s (carry_after count carry)
 
-  pub full : left ≤ 0 → all ≡ record { answer = answered r taken count (said_at said.Record s.place); table = table }
-  full h = sym l.rest ∙ full_by left r piece taken count table h
+  pub full : count ≡ rows → all ≡ record { answer = answered (lent s (carry_after rows carry)) taken rows (said_at TableFull s.place); table = table }
+  full k = rw (← k) (sym l.rest ∙ full_by (rows - count) r piece taken count table (omega (arith, k)))
 
-  pub over : 0 < left → (number : ℕ) → HandsNone r (drop taken piece) number → all ≡ record { answer = ended_by (next_step r piece taken) taken count; table = table }
-  over h number n = sym l.rest ∙ over_by left r piece taken count table h (next_step r piece taken) refl (silent_then r (drop taken piece) number n)
+  -- a look at what the next call is offered
+  pub looked : {now : List ℕ} → now ≡ carry → (x : Result (Option Whole) ℕ) → ((other : List ℕ) → SameFor s.have now other → Foretells (lent s other) (take (length piece - taken) (drop taken piece)) x)
+      → Foretells r (drop taken piece) x
+  looked e x f = rw (← rest_all piece taken) (f (carry_after count carry) (rw e l.front))
 
-  pub on : 0 < left → (w : Words) (lacks : ℕ) → (lacks ≤ length (drop taken piece)) × (next_step r piece taken ≡ passed_by s w lacks)
-      → {next : Place} → next ≡ held (next_of s.place w) → {table' : List ℕ} → table' ≡ puts table (9 * count) (row_in (record_of s.place w))
-      → Loop carry piece table₀ all (record { have = 0; tag = s.tag; place = next }) table' (taken + lacks) (count + 1) (left - 1)
-  on h w lacks f {next} n {table'} q = record {
-    room = omega (arith, l.room);
-    same = rw (q, length_puts table (9 * count) (row_in (record_of s.place w))) l.same;
+  -- after a call that hands out no record
+  module _ (h : count < rows) where
+    over : (s : Step) → next_step r piece taken ≡ s → handed_out s ≡ [] → all ≡ record { answer = ended_by s taken count (ended_with s.answer.found); table = table }
+    over s e f = sym l.rest ∙ over_by (rows - count) r piece taken count table (omega arith) s e f
+
+    pub over_halted : Foretells r (drop taken piece) (Ok None) → all ≡ record { answer = ended_by (next_step r piece taken) taken count (ended_with (next_step r piece taken).answer.found); table = table }
+    over_halted f = over (next_step r piece taken) refl (halt_silent r (drop taken piece) f)
+
+    pub over_failed : (number : ℕ) → Foretells r (drop taken piece) (Err number)
+        → all ≡ record { answer = ended_by (failed_by s number (lacking s)) taken count (Err (refusal_at number s.place)); table = table }
+    over_failed number f = over (failed_by s number (lacking s)) f refl
+
+  pub on : count < rows → (x : Whole) → Foretells r (drop taken piece) (Ok (Some x))
+      → {next : Place} → next ≡ held (next_of s.place x.words) → {table' : List ℕ} → table' ≡ puts table (9 * count) (row_in (record_of s.place x.words))
+      → Loop carry piece all (record { have = 0; tag = s.tag; place = next }) table' (taken + x.lacks) (count + 1) rows
+  on h x f {next} n {table'} q = record {
     inside = omega (arith, l.inside, rw length-drop at f.0);
     front = inl refl;
-    rest = rw (q, n, ne_eqb (count + 1) 0 (λ e. omega arith)) (sym (on_by left r piece taken count table h (passed_by s w lacks) f.1 refl) ∙ l.rest);
+    rest =
+        let k : rows - (count + 1) ≡ rows - count - 1 = omega arith in
+        rw (q, n, k, ne_eqb (count + 1) 0 (λ e. omega arith)) (sym (on_by (rows - count) r piece taken count table (omega arith) (passed_by s x.words x.lacks) f.1 (record_of s.place x.words) refl) ∙ l.rest);
   }

@@ -29,7 +29,7 @@ use Rattle.layout.proofs.Judged.{bad_is}
 use Rattle.layout.proofs.Refusals.{reads_end}
 use Rattle.layout.proofs.Reach.{exact}
 use Rattle.layout.proofs.States.{states}
-use Rattle.reader.specs.Stream.{tag_in, emptied, fresh, step_of}
+use Rattle.reader.specs.Stream.{tag_in, fresh, step_of}
 use Rattle.reader.specs.Readings.{Begun, begun, after, reader_of, KeptClaim}
 use Rattle.reader.specs.declared.Reader.{Reader}
 use Rattle.reader.specs.declared.Step.{Step}
@@ -118,11 +118,7 @@ module _ (tag : List ℕ) where
 
   pub fresh_begin : fresh tag ≡ reader_of (tag_in tag) (begin tag)
   unfolding fresh
-  fresh_begin = go (eqb (length tag) 32)
-    where
-      go : (t : Bool) → emptied (pick t (tag_at tag) no_tag) (pick t start (refused 2 start)) ≡ reader_of (pick t (tag_at tag) no_tag) (pick t (at start []) (stopped (refused 2 start)))
-      go true = refl
-      go false = refl
+  fresh_begin = grind arith
 
 -- ## Begun readers
 

@@ -1,16 +1,13 @@
 -- A read shows what as many calls as the table has rows hand out, because each turn is a call, and after a call that hands out nothing no further
 -- one does: the piece is used up, or it was refused. And each record costs at least 48 bytes, so that rows enough are never used up. Assumes nothing.
-use mathlib.Core.Path.{◌≡◌, refl, sym, ap, ◌∙◌, subst}
-use mathlib.Core.Bool.{Bool, true, false}
+use Rattle.std.specs.Prelude.{Option, Some, None, Result, Ok, Err}
+use mathlib.Core.Path.{◌≡◌, refl, ap, ◌∙◌, subst}
 use mathlib.Core.List.{List, []}
 use Prim.Native.Nat.{ℕ, zero, suc, ◌+◌, ◌*◌, ◌/◌, ◌≤◌, ◌<◌}
 use native.Mathlib.Nat.{zero-add}
 use native.Mathlib.Omega.{arith}
-use lib.Dec.{eqb}
 use lib.ListN.{length, drop, length-append, length-drop, drop_of_length-le}
 use lib.Seq.{get_or-drop, drop-drop, drop-length}
-use borrow.Author.Tests.{ne_eqb, eqb-true}
-use Rattle.words.specs.Checks.{pick}
 use Rattle.words.specs.Le.{Bytes, puts}
 use Rattle.words.specs.declared.Words.{Words}
 use Rattle.words.specs.declared.Refusal.{Refusal}
@@ -18,21 +15,20 @@ use Rattle.words.specs.Record.{tag_at}
 use Rattle.words.proofs.Numbers.{bytes_none}
 use Rattle.words.proofs.Stores.{puts_append}
 use Rattle.cut.proofs.Runs.{run_nil}
-use Rattle.rules.specs.Rules.{size_by, size_of, words_in, fault_in}
-use Rattle.rules.specs.Verdicts.{refusal_at, verdict_at}
-use Rattle.rules.specs.declared.Verdict.{Verdict}
-use Rattle.rules.specs.declared.Verdict.TheVariants as verdict
+use Rattle.rules.specs.Rules.{size_by, size_of}
+use Rattle.rules.specs.Verdicts.{Verdict, refusal_at, verdict_at}
+use Rattle.rules.specs.declared.Record.{Record}
 use Rattle.carry.proofs.Sizes.{size_least}
 use Rattle.layout.specs.Scan.{format}
-use Rattle.reader.specs.Stream.{tag_in, said_number, silent, settled, unless_refused, said_at, stopped_by, lacking, whole_in, step_of}
-use Rattle.reader.specs.Rows.{row_in, is_record, answered, Reading, reads_on, read_for}
-use Rattle.reader.specs.Readings.{Begun, after, Seen, seen_of, handed_out, then_seen, offers, called}
+use Rattle.reader.specs.Stream.{tag_in, settled, said_at, stopped_by, lacking, heard_in, whole_in, step_of}
+use Rattle.reader.specs.Rows.{row_in, goes_on, answered, ended_by, Reading, reads_on, read_for}
+use Rattle.reader.specs.Readings.{Begun, after, Seen, seen_of, record_by, handed_out, then_seen, offers, called}
 use Rattle.reader.specs.Showings.{rows_in, rests_of, taken_of, SaysWhy, ShowsClaim, UsedUp, RoomClaim, RepeatedClaim, RowsClaim}
 use Rattle.reader.specs.declared.Reader.{Reader}
 use Rattle.reader.specs.declared.Step.{Step}
-use Rattle.reader.specs.declared.Said.{Said}
-use Rattle.reader.specs.declared.Said.TheVariants as said
-use Rattle.reader.proofs.Calls.{either, by_case, held_due_lem, no_more, refuses, verdict_refused}
+use Rattle.reader.specs.declared.Ended.{Ended}
+use Rattle.reader.specs.declared.Ended.TheVariants.{PieceUsed, TableFull}
+use Rattle.reader.proofs.Calls.{by_case, held_due_lem, no_more, refuses, verdict_refused}
 use Rattle.reader.proofs.Reached.{stands}
 use Rattle.reader.proofs.Cut.{offers_run}
 use Rattle.reader.proofs.Theorem.{reader}
@@ -47,7 +43,7 @@ taken_most (suc n) r piece =
     let s = step_of r piece in
     omega (arith, no_more r piece, rw length-drop at (taken_most n s.reader (drop s.answer.taken piece)))
 
-module _ (r : Reader) (f : Refusal) (k : (later : List ℕ) → step_of r later ≡ record { reader = r; answer = silent 0 (said.Refused f) }) where
+module _ (r : Reader) (f : Refusal) (k : (later : List ℕ) → step_of r later ≡ record { reader = r; answer = record { taken = 0; found = Err f } }) where
   quiet_refused : (n : ℕ) (piece : List ℕ) → offers n r piece ≡ record { records = []; reader = r }
   unfolding offers
   quiet_refused zero piece = refl
@@ -68,23 +64,17 @@ quiet_empty r b (suc n) =
 -- a call that says nothing has used up the piece
 module _ (r : Reader) (piece : List ℕ) where
   abbrev Used : Step → Type 0
-  Used s = s.answer.said ≡ said.Nothing → drop s.answer.taken piece ≡ []
+  Used s = s.answer.found ≡ Ok None → drop s.answer.taken piece ≡ []
 
-  used_after : (w : Words) (number taken : ℕ) → Used (settled r.stand w number taken)
-  used_after w zero taken e = let k : ◌≡◌ {A = ℕ} 1 0 = ap said_number e in absurd (omega arith)
-  used_after w (suc n) taken e = let k : ◌≡◌ {A = ℕ} 2 0 = ap said_number (rw (ne_eqb (suc n) 0 (λ e. omega arith)) at e) in absurd (omega arith)
-
-  used_end : (t : Bool) → eqb (length piece) 0 ≡ t → (x y : Step) → x.answer.taken ≡ 0 → (f : Refusal) → y.answer.said ≡ said.Refused f → Used (pick t x y)
-  used_end true i x y z f g e = let k : length piece ≤ 0 = omega (arith, eqb-true (length piece) 0 i) in rw z (drop_of_length-le piece {i = 0} k)
-  used_end false i x y z f g e = let k : ◌≡◌ {A = ℕ} 2 0 = ap said_number (sym g ∙ e) in absurd (omega arith)
+  used_after : (h : Result Words ℕ) (taken : ℕ) → Used (settled r.stand h taken)
+  used_after h taken e = grind arith
 
   used_stopped : (v : Verdict) → Used (stopped_by v r (length piece))
-  used_stopped (verdict.Refused f) e = let k : ◌≡◌ {A = ℕ} 2 0 = ap said_number e in absurd (omega arith)
-  used_stopped (verdict.Accepted summary) e = used_end (eqb (length piece) 0) refl _ _ refl _ refl e
+  used_stopped v e = grind (arith, drop_of_length-le)
 
   used_up : Used (step_of r piece)
   used_up = by_case r piece Used (λ e. used_stopped (verdict_at r.stand.place)) (λ l e. drop-length piece)
-      (λ k l. used_after (words_in r.stand.place (whole_in r piece)) (fault_in r.stand.tag r.stand.place (whole_in r piece)) (lacking r.stand))
+      (λ k l. used_after (heard_in r.stand (whole_in r piece)) (lacking r.stand))
 
 -- ## The turns
 
@@ -95,23 +85,17 @@ record Part (x : Reading) (piece : List ℕ) (taken count : ℕ) (table : List �
   count_is : x.answer.count ≡ count + length seen.records
   table_is : x.table ≡ puts table (9 * count) (rows_in seen.records)
   fits : length seen.records ≤ left
-  says : SaysWhy x.answer.said x piece (count + left)
+  says : SaysWhy x.answer.ended x piece (count + left)
 
 none : (x : Reading) (piece : List ℕ) (taken count : ℕ) (table : List ℕ) (left more : ℕ) (r : Reader) → x.answer.reader ≡ r → x.answer.taken ≡ taken + more → x.answer.count ≡ count → x.table ≡ table
-    → SaysWhy x.answer.said x piece (count + left) → Part x piece taken count table left (record { records = []; reader = r }) more
+    → SaysWhy x.answer.ended x piece (count + left) → Part x piece taken count table left (record { records = []; reader = r }) more
 unfolding puts
 none x piece taken count table left more r a b c d e = record { reader = a; taken_is = b; count_is = omega (arith, c); table_is = d; fits = omega arith; says = e }
 
 full : (r : Reader) (piece : List ℕ) (taken count : ℕ) (table : List ℕ)
-    → SaysWhy (said_at said.Record r.stand.place) (record { answer = answered r taken count (said_at said.Record r.stand.place); table = table }) piece (count + 0)
+    → SaysWhy (said_at TableFull r.stand.place) (record { answer = answered r taken count (said_at TableFull r.stand.place); table = table }) piece (count + 0)
 unfolding verdict_at
-full r piece taken count table = go (eqb (size_of r.stand.place) 0) refl (verdict_at r.stand.place) refl
-  where
-    go : (t : Bool) → eqb (size_of r.stand.place) 0 ≡ t → (v : Verdict) → verdict_at r.stand.place ≡ v
-        → SaysWhy (pick t (unless_refused said.Record v) said.Record) (record { answer = answered r taken count (pick t (unless_refused said.Record v) said.Record); table = table }) piece (count + 0)
-    go true i (verdict.Accepted summary) e = omega arith
-    go true i (verdict.Refused f) e = held_due_lem r.stand.place.due r.stand.place f (eqb-true _ _ i) e
-    go false i v e = omega arith
+full r piece taken count table = grind (arith, held_due_lem)
 
 module _ (piece : List ℕ) (y : Bytes piece) where
   rest_bytes : (taken : ℕ) → Bytes (drop taken piece)
@@ -124,8 +108,8 @@ module _ (piece : List ℕ) (y : Bytes piece) where
     abbrev s : Step
     s = step_of r p
 
-    abbrev over : Reading
-    over = record { answer = answered s.reader (taken + s.answer.taken) count s.answer.said; table = table }
+    abbrev over : Result Ended Refusal → Reading
+    over e = record { answer = ended_by s taken count e; table = table }
 
     abbrev later : Seen
     later = offers left s.reader (drop s.answer.taken p)
@@ -133,41 +117,42 @@ module _ (piece : List ℕ) (y : Bytes piece) where
     abbrev more : ℕ
     more = taken_of left s.reader (drop s.answer.taken p)
 
-    next : Begun s.reader
-    next = after b p (rest_bytes taken)
+    -- what is left of a read that ends: no further call hands out or takes anything
+    abbrev Ends : Result Ended Refusal → Type 0
+    Ends e = (later ≡ record { records = []; reader = s.reader }) × (more ≡ 0) × SaysWhy e (over e) piece (count + suc left)
 
-    -- no further call hands out or takes anything
-    quiet : (x : Said) → s.answer.said ≡ x → is_record x ≡ false → (later ≡ record { records = []; reader = s.reader }) × (more ≡ 0)
-    quiet said.Nothing e t = rw (used_up r p e) (quiet_empty s.reader next left, omega (arith, taken_most left s.reader []))
-    quiet said.Record e t = let k : ◌≡◌ {A = ℕ} 1 0 = ap (λ (t : Bool). pick t 1 0) t in absurd (omega arith)
-    quiet (said.Refused f) e t =
-        let k = (refuses r p).stays f e in
-        (quiet_refused s.reader f k left (drop s.answer.taken p), idle_refused s.reader f k left (drop s.answer.taken p))
+    used : s.answer.found ≡ Ok None → Ends (Ok PieceUsed)
+    used e =
+        let u = used_up r p e in
+        let k : length (drop s.answer.taken p) ≡ 0 = ap length u in (
+          rw u (quiet_empty s.reader (after b p (rest_bytes taken)) left),
+          rw u (omega (arith, taken_most left s.reader [])),
+          omega (arith, l, simp length-drop at k, simp length-drop at (no_more r p)),
+        )
 
-    why : (x : Said) → s.answer.said ≡ x → is_record x ≡ false → SaysWhy x over piece (count + suc left)
-    why said.Nothing e t =
-        let k : length (drop s.answer.taken p) ≡ 0 = ap length (used_up r p e) in
-        omega (arith, l, simp (length-drop) at k, simp length-drop at (no_more r p))
-    why said.Record e t = let k : ◌≡◌ {A = ℕ} 1 0 = ap (λ (t : Bool). pick t 1 0) t in absurd (omega arith)
-    why (said.Refused f) e t = (refuses r p).holds f e
+    held : (f : Refusal) → s.answer.found ≡ Err f → Ends (Err f)
+    held f e =
+        let q = refuses r p in
+        (quiet_refused s.reader f (q.stays f e) left (drop s.answer.taken p), idle_refused s.reader f (q.stays f e) left (drop s.answer.taken p), q.holds f e)
 
-    turn : (x : Said) → s.answer.said ≡ x → (then : Reading)
-        → Part then piece (taken + s.answer.taken) (count + 1) (puts table (9 * count) (row_in s.answer.found)) left later more
-        → Part (pick (is_record s.answer.said) then over) piece taken count table (suc left) (then_seen (handed_out s) later) (s.answer.taken + more)
-    turn said.Nothing e then ih =
-        let q = quiet said.Nothing e refl in
-        rw (e, q.0, q.1) (none _ piece taken count table (suc left) (s.answer.taken + 0) s.reader refl (omega arith) refl refl (why said.Nothing e refl))
-    turn said.Record e then ih = rw e (record {
-      reader = ih.reader;
-      taken_is = omega (arith, ih.taken_is);
-      count_is = omega (arith, ih.count_is);
-      table_is = ih.table_is ∙ ap (λ (n : ℕ). puts (puts table (9 * count) (row_in s.answer.found)) n (rows_in later.records)) (omega arith) ∙ puts_append table (9 * count) (row_in s.answer.found) (rows_in later.records);
-      fits = omega (arith, ih.fits);
-      says = subst (SaysWhy then.answer.said then piece) (omega arith) ih.says;
-    })
-    turn (said.Refused f) e then ih =
-        let q = quiet (said.Refused f) e refl in
-        rw (e, q.0, q.1) (none _ piece taken count table (suc left) (s.answer.taken + 0) s.reader refl (omega arith) refl refl (why (said.Refused f) e refl))
+    ends : (e : Result Ended Refusal) → Ends e → Part (over e) piece taken count table (suc left) (then_seen [] later) (s.answer.taken + more)
+    ends e q = rw (q.0, q.1) (none _ piece taken count table (suc left) (s.answer.taken + 0) s.reader refl (omega arith) refl refl q.2)
+
+    turn : (x : Result (Option Record) Refusal) → s.answer.found ≡ x → (then : Record → Reading)
+        → ((found : Record) → Part (then found) piece (taken + s.answer.taken) (count + 1) (puts table (9 * count) (row_in found)) left later more)
+        → Part (goes_on x then over) piece taken count table (suc left) (then_seen (record_by x) later) (s.answer.taken + more)
+    turn (Ok None) e then ih = ends (Ok PieceUsed) (used e)
+    turn (Err f) e then ih = ends (Err f) (held f e)
+    turn (Ok (Some found)) e then ih =
+        let h = ih found in
+        record {
+          reader = h.reader;
+          taken_is = omega (arith, h.taken_is);
+          count_is = omega (arith, h.count_is);
+          table_is = h.table_is ∙ ap (λ (n : ℕ). puts (puts table (9 * count) (row_in found)) n (rows_in later.records)) (omega arith) ∙ puts_append table (9 * count) (row_in found) (rows_in later.records);
+          fits = omega (arith, h.fits);
+          says = subst (SaysWhy (then found).answer.ended (then found) piece) (omega arith) h.says;
+        }
 
   shown : (left : ℕ) (r : Reader) → Begun r → (taken count : ℕ) (table : List ℕ) → taken ≤ length piece
       → Part (reads_on left r piece taken count table) piece taken count table left (offers left r (drop taken piece)) (taken_of left r (drop taken piece))
@@ -176,12 +161,9 @@ module _ (piece : List ℕ) (y : Bytes piece) where
   shown (suc left) r b taken count table l =
       let p = drop taken piece in
       let s = step_of r p in
-      let row = puts table (9 * count) (row_in s.answer.found) in
       let k : taken + s.answer.taken ≤ length piece = omega (arith, l, simp length-drop at (no_more r p)) in
-      let ih = shown left s.reader (after b p (rest_bytes taken)) (taken + s.answer.taken) (count + 1) row k in
-      let then = reads_on left s.reader piece (taken + s.answer.taken) (count + 1) row in
-      turn left r b taken count table l s.answer.said refl then
-      (subst (λ (rest : List ℕ). Part then piece (taken + s.answer.taken) (count + 1) row left (offers left s.reader rest) (taken_of left s.reader rest)) (sym (drop-drop s.answer.taken taken piece)) ih)
+      turn left r b taken count table l s.answer.found refl _ (λ found.
+      rw (drop-drop s.answer.taken taken piece) (shown left s.reader (after b p (rest_bytes taken)) (taken + s.answer.taken) (count + 1) (puts table (9 * count) (row_in found)) k))
 
 -- the calls that a piece is offered to are calls like any others
 rests : (n : ℕ) (r : Reader) (piece : List ℕ) → offers n r piece ≡ called r (rests_of n r piece)
@@ -203,17 +185,12 @@ module _ (r : Reader) (piece : List ℕ) where
   abbrev Pays : Step → Type 0
   Pays s = 48 * length (handed_out s) + s.reader.stand.have ≤ s.answer.taken + r.stand.have
 
-  pays_settled : (w : Words) (number : ℕ) → 0 < size_of r.stand.place → Pays (settled r.stand w number (lacking r.stand))
-  pays_settled w zero k = omega (arith, size_least r.stand.place.due k)
-  pays_settled w (suc n) k = rw (ne_eqb (suc n) 0 (λ e. omega arith)) (omega arith)
-
-  pays_stopped : (v : Verdict) → Pays (stopped_by v r (length piece))
-  pays_stopped (verdict.Refused f) = omega arith
-  pays_stopped (verdict.Accepted summary) = either Pays (eqb (length piece) 0) (omega arith) (omega arith)
+  pays_settled : (h : Result Words ℕ) → 0 < size_of r.stand.place → Pays (settled r.stand h (lacking r.stand))
+  pays_settled h k = let l = size_least r.stand.place.due k in grind arith
 
   pays : Pays (step_of r piece)
-  pays = by_case r piece Pays (λ e. pays_stopped (verdict_at r.stand.place)) (λ l. omega arith)
-      (λ k l. pays_settled (words_in r.stand.place (whole_in r piece)) (fault_in r.stand.tag r.stand.place (whole_in r piece)) k)
+  pays = by_case r piece Pays (λ e. grind arith) (λ l. omega arith)
+      (λ k l. pays_settled (heard_in r.stand (whole_in r piece)) k)
 
 all_pay : (n : ℕ) (r : Reader) (piece : List ℕ) → 48 * length (offers n r piece).records ≤ taken_of n r piece + r.stand.have
 unfolding offers taken_of
@@ -223,7 +200,7 @@ all_pay (suc n) r piece =
     simp length-append (omega (arith, pays r piece, all_pay n s.reader (drop s.answer.taken piece)))
 
 room : (r : Reader) → Begun r → (piece : List ℕ) → Bytes piece → (table : List ℕ) → RoomClaim r piece table
-room r b piece y table l = go x.answer.said refl
+room r b piece y table l = go x.answer.ended refl
   where
     x : Reading
     x = read_for r piece table
@@ -237,12 +214,13 @@ room r b piece y table l = go x.answer.said refl
         let e : x.answer.count ≡ length (offers n r piece).records = rw (rests n r piece) w.count in
         omega (arith, e, all_pay n r piece, taken_most n r piece, reader.few r b)
 
-    go : (s : Said) → x.answer.said ≡ s → UsedUp s x piece
-    go said.Nothing e = subst (λ (s : Said). SaysWhy s x piece (length table / 9)) e w.says
-    go said.Record e =
-        let k : x.answer.count ≡ length table / 9 = subst (λ (s : Said). SaysWhy s x piece (length table / 9)) e w.says in
-        absurd (omega (arith, k, l, pay))
-    go (said.Refused f) e = subst (λ (s : Said). SaysWhy s x piece (length table / 9)) e w.says
+    why : {e : Result Ended Refusal} → x.answer.ended ≡ e → SaysWhy e x piece (length table / 9)
+    why q = subst (λ (e : Result Ended Refusal). SaysWhy e x piece (length table / 9)) q w.says
+
+    go : (e : Result Ended Refusal) → x.answer.ended ≡ e → UsedUp e x piece
+    go (Ok PieceUsed) q = why q
+    go (Ok TableFull) q = absurd (omega (arith, why q, l, pay))
+    go (Err f) q = why q
 
 -- ## A refusal is repeated
 
@@ -253,11 +231,15 @@ again r number e piece table = go (length table / 9)
     f : Refusal
     f = refusal_at number r.stand.place
 
-    go : (n : ℕ) → reads_on n r piece 0 0 table ≡ record { answer = answered r 0 0 (said.Refused f); table = table }
+    go : (n : ℕ) → reads_on n r piece 0 0 table ≡ record { answer = answered r 0 0 (Err f); table = table }
     go zero = rw (ap size_by e, verdict_refused r.stand.place number e)
     go (suc n) = rw ((refuses r piece).again number e)
 
 -- ## The reader after a read
+
+either_way : (x : Result (Option Record) Refusal) (on : Record → Reading) (over : Result Ended Refusal → Reading) → ((found : Record) → Begun (on found).answer.reader)
+    → ((e : Result Ended Refusal) → Begun (over e).answer.reader) → Begun (goes_on x on over).answer.reader
+either_way x on over f g = grind arith
 
 module _ (piece : List ℕ) (y : Bytes piece) where
   turns : (left : ℕ) (r : Reader) → Begun r → (taken count : ℕ) (table : List ℕ) → Begun (reads_on left r piece taken count table).answer.reader
@@ -266,7 +248,7 @@ module _ (piece : List ℕ) (y : Bytes piece) where
   turns (suc left) r b taken count table =
       let s = step_of r (drop taken piece) in
       let n = after b (drop taken piece) (rest_bytes piece y taken) in
-      either (λ (x : Reading). Begun x.answer.reader) (is_record s.answer.said) (turns left s.reader n (taken + s.answer.taken) (count + 1) (puts table (9 * count) (row_in s.answer.found))) n
+      either_way s.answer.found _ _ (λ found. turns left s.reader n (taken + s.answer.taken) (count + 1) (puts table (9 * count) (row_in found))) (λ e. n)
 
 begun_read : (r : Reader) → Begun r → (piece : List ℕ) → Bytes piece → (table : List ℕ) → Begun (read_for r piece table).answer.reader
 unfolding read_for

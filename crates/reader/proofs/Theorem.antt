@@ -1,13 +1,10 @@
 -- ALL CLAIMS about the reader, each from its own file, because every begun reader stands for a state of the theory. Assumes nothing.
 use mathlib.Core.Path.{◌≡◌, sym, ◌∙◌}
-use mathlib.Core.Logic.{◌⊎◌, inl, inr}
 use mathlib.Core.List.{List}
-use Prim.Native.Nat.{ℕ, suc, ◌≤◌, ◌<◌}
+use Prim.Native.Nat.{ℕ, suc, ◌≤◌}
 use native.Mathlib.Omega.{arith}
 use lib.ListN.{length}
 use Rattle.words.specs.Le.{Bytes}
-use Rattle.rules.specs.Rules.{size_of}
-use Rattle.reader.specs.Stream.{step_of}
 use Rattle.reader.specs.Readings.{Begun, SomeTaken, EnoughClaim, ReaderClaim}
 use Rattle.reader.specs.declared.Reader.{Reader}
 use Rattle.carry.proofs.Sizes.{size_most}
@@ -21,18 +18,15 @@ enough r b piece y n l =
     rw k.same (offers_run k.tag n k.state piece k.standing y l ∙ sym (offers_run k.tag (suc (length piece)) k.state piece k.standing y (omega arith)))
 
 takes : (r : Reader) → Begun r → (piece : List ℕ) → SomeTaken r piece
-takes r b piece d l = go (kept r b).fits
-  where
-    go : (r.stand.have < size_of r.stand.place) ⊎ ((size_of r.stand.place ≡ 0) × (r.stand.have ≡ 0)) → 0 < (step_of r piece).answer.taken
-    go (inl h) = some_more r piece h l
-    go (inr z) = absurd (omega (arith, d, z.0))
+takes r b piece d l =
+    let f = (kept r b).fits in
+    some_more r piece (grind arith) l
 
 few : (r : Reader) → Begun r → r.stand.have ≤ 200
-few r b = go (kept r b).fits
-  where
-    go : (r.stand.have < size_of r.stand.place) ⊎ ((size_of r.stand.place ≡ 0) × (r.stand.have ≡ 0)) → r.stand.have ≤ 200
-    go (inl h) = omega (arith, h, size_most r.stand.place.due)
-    go (inr z) = omega (arith, z.1)
+few r b =
+    let f = (kept r b).fits in
+    let m = size_most r.stand.place.due in
+    grind arith
 
 pub reader : ReaderClaim
 reader = record { cut = cut; calls = any_calls; kept = kept; enough = enough; takes = takes; empty = λ r b. empty_step r (kept r b).fits; most = no_more; refused = refuses; few = few }

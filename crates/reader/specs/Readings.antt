@@ -1,5 +1,5 @@
 -- WHAT A HOST SEES that feeds a reader pieces, and the claims about it, proved in proofs/ for every tag and all bytes.
-use Rattle.std.specs.Prelude.{◌≡◌, ◌⊎◌, List, [], ◌∷◌, ◌++◌, ℕ, zero, suc, ◌-◌, ◌≤◌, ◌<◌, length, drop, replicate}
+use Rattle.std.specs.Prelude.{◌≡◌, ◌⊎◌, List, [], ◌∷◌, ◌++◌, ℕ, zero, suc, ◌-◌, ◌≤◌, ◌<◌, length, drop, replicate, Option, Some, None, Result, Ok, Err}
 use Rattle.words.specs.Le.{Bytes}
 use Rattle.words.specs.Record.{tag_at}
 use Rattle.words.specs.declared.Tag.{Tag}
@@ -12,25 +12,22 @@ use Rattle.rules.specs.declared.Place.{Place}
 use Rattle.rules.specs.declared.Record.{Record}
 use Rattle.words.specs.declared.Refusal.{Refusal}
 use Rattle.rules.specs.declared.Due.TheVariants.{Refused}
-use Rattle.rules.specs.declared.Verdict.TheVariants as verdict
 use Rattle.layout.specs.Scan.{format, begin, scan, found_in}
 use Rattle.layout.specs.Reach.{Reached, totals_with}
-use Rattle.reader.specs.Stream.{emptied, tag_in, fresh, no_record, silent, said_at, step_of, verdict_of}
+use Rattle.reader.specs.Stream.{emptied, tag_in, fresh, said_at, step_of, verdict_of}
 use Rattle.reader.specs.declared.Reader.{Reader}
-use Rattle.reader.specs.declared.Said.{Said}
-use Rattle.reader.specs.declared.Said.TheVariants as said
 use Rattle.reader.specs.declared.Step.{Step}
 
 -- ## Calls, as a host makes them
 
 -- the record that a call hands out, if any
-abbrev pub record_by : Said → Record → List Record
-record_by said.Nothing found = []
-record_by said.Record found = found ∷ []
-record_by (said.Refused refusal) found = []
+abbrev pub record_by : Result (Option Record) Refusal → List Record
+record_by (Ok None) = []
+record_by (Ok (Some found)) = found ∷ []
+record_by (Err refusal) = []
 
 abbrev pub handed_out : Step → List Record
-handed_out s = record_by s.answer.said s.answer.found
+handed_out s = record_by s.answer.found
 
 -- the records handed out by some calls, and the reader after them
 pub record Seen : Type 0 where
@@ -130,7 +127,7 @@ NoMoreTaken r piece = (step_of r piece).answer.taken ≤ length piece
 
 -- EMPTY: an empty piece changes nothing; no byte is taken and no record handed out, and a refusal is said if there was one.
 abbrev pub EmptyClaim : Reader → Type 0
-EmptyClaim r = step_of r [] ≡ record { reader = r; answer = silent 0 (said_at said.Nothing r.stand.place) }
+EmptyClaim r = step_of r [] ≡ record { reader = r; answer = record { taken = 0; found = said_at None r.stand.place } }
 
 -- a reader holds a refusal: it is that of its place
 abbrev pub Holds : Reader → Refusal → Type 0
@@ -139,17 +136,17 @@ Holds r refusal = (r.stand.place.due ≡ Refused refusal.number) × (refusal_at 
 -- REFUSED: of any reader and any piece, begun or not.
 pub record RefusedClaim (r : Reader) (piece : List ℕ) : Type 0 where
   -- a call that refuses hands out no record
-  pub none : (refusal : Refusal) → (step_of r piece).answer.said ≡ said.Refused refusal → (step_of r piece).answer.found ≡ no_record
+  pub none : (refusal : Refusal) → (step_of r piece).answer.found ≡ Err refusal → handed_out (step_of r piece) ≡ []
   -- its reader holds the refusal
-  pub holds : (refusal : Refusal) → (step_of r piece).answer.said ≡ said.Refused refusal → Holds (step_of r piece).reader refusal
+  pub holds : (refusal : Refusal) → (step_of r piece).answer.found ≡ Err refusal → Holds (step_of r piece).reader refusal
   -- which is the verdict
-  pub verdict : (refusal : Refusal) → (step_of r piece).answer.said ≡ said.Refused refusal → verdict_of (step_of r piece).reader ≡ verdict.Refused refusal
+  pub verdict : (refusal : Refusal) → (step_of r piece).answer.found ≡ Err refusal → verdict_of (step_of r piece).reader ≡ Err refusal
   -- and every later call, with any piece, takes nothing, changes nothing, and says the same refusal
-  pub stays : (refusal : Refusal) → (step_of r piece).answer.said ≡ said.Refused refusal
-      → (later : List ℕ) → step_of (step_of r piece).reader later ≡ record { reader = (step_of r piece).reader; answer = silent 0 (said.Refused refusal) }
+  pub stays : (refusal : Refusal) → (step_of r piece).answer.found ≡ Err refusal
+      → (later : List ℕ) → step_of (step_of r piece).reader later ≡ record { reader = (step_of r piece).reader; answer = record { taken = 0; found = Err refusal } }
   -- so does every call of a reader whose place holds a refusal
   pub again : (number : ℕ) → r.stand.place.due ≡ Refused number
-      → step_of r piece ≡ record { reader = r; answer = silent 0 (said.Refused (refusal_at number r.stand.place)) }
+      → step_of r piece ≡ record { reader = r; answer = record { taken = 0; found = Err (refusal_at number r.stand.place) } }
 
 -- ALL OF THEM
 pub record ReaderClaim : Type 0 where

@@ -1,15 +1,16 @@
 -- WHAT A HOST SEES that reads whole pieces into a table, and the claims about it, proved in proofs/ for every begun reader and all bytes.
-use Rattle.std.specs.Prelude.{◌≡◌, List, [], ◌∷◌, ◌++◌, ℕ, zero, suc, ◌+◌, ◌/◌, ◌≤◌, length, drop}
+use Rattle.std.specs.Prelude.{◌≡◌, List, [], ◌∷◌, ◌++◌, ℕ, zero, suc, ◌+◌, ◌/◌, ◌≤◌, length, drop, Result, Ok, Err}
 use Rattle.words.specs.Le.{Bytes, puts}
 use Rattle.rules.specs.Verdicts.{refusal_at}
 use Rattle.rules.specs.declared.Record.{Record}
+use Rattle.words.specs.declared.Refusal.{Refusal}
 use Rattle.rules.specs.declared.Due.TheVariants.{Refused}
 use Rattle.reader.specs.Stream.{step_of}
 use Rattle.reader.specs.Rows.{row_in, answered, Reading, read_for}
 use Rattle.reader.specs.Readings.{Seen, called, Begun, Holds}
 use Rattle.reader.specs.declared.Reader.{Reader}
-use Rattle.reader.specs.declared.Said.{Said}
-use Rattle.reader.specs.declared.Said.TheVariants as said
+use Rattle.reader.specs.declared.Ended.{Ended}
+use Rattle.reader.specs.declared.Ended.TheVariants.{PieceUsed, TableFull}
 
 -- the rows of records, one after the other
 abbrev pub rows_in : List Record → List ℕ
@@ -26,11 +27,11 @@ unfoldable pub taken_of : ℕ → Reader → List ℕ → ℕ
 taken_of zero r piece = 0
 taken_of (suc n) r piece = (step_of r piece).answer.taken + taken_of n (step_of r piece).reader (drop (step_of r piece).answer.taken piece)
 
--- what is said last: nothing more if the piece is used up, a record only if the table is full, and else the refusal that the reader holds
-abbrev pub SaysWhy : Said → Reading → List ℕ → ℕ → Type 0
-SaysWhy said.Nothing x piece rows = x.answer.taken ≡ length piece
-SaysWhy said.Record x piece rows = x.answer.count ≡ rows
-SaysWhy (said.Refused refusal) x piece rows = Holds x.answer.reader refusal
+-- why no more was read: the piece is used up, or the table is full, or else the reader holds the refusal
+abbrev pub SaysWhy : Result Ended Refusal → Reading → List ℕ → ℕ → Type 0
+SaysWhy (Ok PieceUsed) x piece rows = x.answer.taken ≡ length piece
+SaysWhy (Ok TableFull) x piece rows = x.answer.count ≡ rows
+SaysWhy (Err refusal) x piece rows = Holds x.answer.reader refusal
 
 -- SHOWS: a read of a whole piece is as many calls as the table has rows: the reader after them, the bytes that they take, how many records they hand out, and their rows in the table,
 -- of which no other number changes.
@@ -40,21 +41,21 @@ pub record ShowsClaim (x : Reading) (r : Reader) (piece table : List ℕ) (rows 
   pub count : x.answer.count ≡ length seen.records
   pub table_is : x.table ≡ puts table 0 (rows_in seen.records)
   pub fits : length seen.records ≤ rows
-  pub says : SaysWhy x.answer.said x piece rows
+  pub says : SaysWhy x.answer.ended x piece rows
 
 -- ENOUGH ROWS: a piece of n bytes is used up or refused, if the table has more rows than n bytes and those in the carry can be records.
-abbrev pub UsedUp : Said → Reading → List ℕ → Type 0
-UsedUp said.Nothing x piece = x.answer.taken ≡ length piece
-UsedUp said.Record x piece = ⊥
-UsedUp (said.Refused refusal) x piece = Holds x.answer.reader refusal
+abbrev pub UsedUp : Result Ended Refusal → Reading → List ℕ → Type 0
+UsedUp (Ok PieceUsed) x piece = x.answer.taken ≡ length piece
+UsedUp (Ok TableFull) x piece = ⊥
+UsedUp (Err refusal) x piece = Holds x.answer.reader refusal
 
 abbrev pub RoomClaim : Reader → List ℕ → List ℕ → Type 0
-RoomClaim r piece table = (length piece + 200) / 48 + 1 ≤ length table / 9 → UsedUp (read_for r piece table).answer.said (read_for r piece table) piece
+RoomClaim r piece table = (length piece + 200) / 48 + 1 ≤ length table / 9 → UsedUp (read_for r piece table).answer.ended (read_for r piece table) piece
 
 -- REPEATED: a reader whose place holds a refusal says it again, whatever piece and table it is lent, and neither it nor the table changes.
 abbrev pub RepeatedClaim : Reader → Type 0
 RepeatedClaim r = (number : ℕ) → r.stand.place.due ≡ Refused number → (piece table : List ℕ)
-    → read_for r piece table ≡ record { answer = answered r 0 0 (said.Refused (refusal_at number r.stand.place)); table = table }
+    → read_for r piece table ≡ record { answer = answered r 0 0 (Err (refusal_at number r.stand.place)); table = table }
 
 -- ALL OF THEM
 pub record RowsClaim : Type 0 where

@@ -4,7 +4,6 @@
 
 ghost use Rattle.std.specs.Prelude.{◌≡◌};
 ghost use Rattle.layout.specs.Scan.{found_in};
-ghost use Rattle.reader.specs.Stream.{said_number, refusal_said};
 
 use rules::{Place, Record, Verdict};
 use whole::last_place;
@@ -29,20 +28,11 @@ pub struct Reader {
     pub carry: [u8; 200],
 }
 
-// What a call says: nothing yet, a record, or the refusal.
-#[derive(Clone, Copy)]
-pub enum Said {
-    Nothing,
-    Record,
-    Refused(Refusal),
-}
-
-// What a call answers: how many bytes it took, and the record found, all zeros where there is none.
+// What a call answers: how many bytes it took, and the record found, if it found one, or the refusal.
 #[derive(Clone, Copy)]
 pub struct Answer {
     pub taken: usize,
-    pub found: Record,
-    pub said: Said,
+    pub found: Result<Option<Record>, Refusal>,
 }
 
 #[derive(Clone, Copy)]
@@ -58,43 +48,26 @@ pub struct Call {
     pub answer: Answer,
 }
 
-// What reading a whole piece gives: where the reader stands, the bytes taken, the rows filled, and what was said last.
+// Why no more of a piece was read, where nothing was refused.
+#[derive(Clone, Copy, Debug, PartialEq, Eq)]
+pub enum Ended {
+    PieceUsed,
+    TableFull,
+}
+
+// What reading a whole piece gives: where the reader stands, the bytes taken, the rows filled, and why no more was read.
 #[derive(Clone, Copy)]
 pub struct Read {
     pub stand: Stand,
     pub taken: usize,
     pub count: usize,
-    pub said: Said,
-}
-
-impl Said {
-    // 0 for nothing yet, 1 for a record, 2 for a refusal.
-    pub fn number(self) -> u32
-        ensures { result ≡ said_number self }
-    {
-        match self {
-            Said::Nothing => 0,
-            Said::Record => 1,
-            Said::Refused(_) => 2,
-        }
-    }
-
-    // The refusal, or number 0 at position 0.
-    pub fn refusal(self) -> Refusal
-        ensures { result ≡ refusal_said self }
-    {
-        match self {
-            Said::Nothing => Refusal::NONE,
-            Said::Record => Refusal::NONE,
-            Said::Refused(refusal) => refusal,
-        }
-    }
+    pub ended: Result<Ended, Refusal>,
 }
 
 // The verdict on a whole shard.
+#[tactic(auto, using(whole::proofs::Turns::last_verdict))]
 pub fn judge(tag: &[u8], shard: &[u8]) -> Verdict
     ensures { result ≡ (found_in tag.now shard.now).verdict }
 {
-    let place = last_place(tag, shard);
-    place.verdict()
+    last_place(tag, shard).verdict()
 }

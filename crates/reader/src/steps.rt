@@ -2,113 +2,74 @@
 // call, which leaves it clean: the bytes so far of the record due, and zeros.
 ghost use Rattle.std.specs.Prelude.{◌≡◌, true, ◌-◌, ◌<◌, length};
 ghost use Rattle.rules.specs.Rules.{size_of};
-ghost use Rattle.reader.specs.Stream.{fresh, lent, call_of, silent, passed_by, failed_by, kept, stopped, halt_by, step_of, verdict_of};
+ghost use Rattle.reader.specs.Stream.{fresh, lent, call_of, passed_by, failed_by, kept, stopped, halt_by, step_of, verdict_of};
 
-use crate::{Answer, Call, Reader, Said, Stand, Step};
+use crate::{Answer, Call, Reader, Stand, Step};
 use carry::{filled, hear, missing};
-use rules::{Kind, Place, Record, Verdict};
+use rules::Verdict;
 use whole::start_for;
-use words::{Position, Refusal, Tag, Words};
-
-pub(crate) const NO_RECORD: Record = Record {
-    at: Position(0),
-    offset: Position(0),
-    words: Words {
-        hash: [0; 4],
-        a: 0,
-        b: 0,
-        c: 0,
-        d: 0,
-    },
-    kind: Kind::Header,
-};
+use words::{Refusal, Tag, Words};
 
 // Whether nothing is due, or less is left of the piece than the record due lacks.
 pub(crate) fn halts(size: usize, lacks: usize, left: usize) -> bool
     ensures { result ≡ halt_by size lacks left }
 {
-    if size == 0 { true } else { left < lacks }
-}
-
-// A call that hands out nothing.
-fn silence(taken: usize, said: Said) -> Answer
-    ensures { result ≡ silent taken said }
-{
-    Answer {
-        taken: taken,
-        found: NO_RECORD,
-        said: said,
-    }
+    size == 0 || left < lacks
 }
 
 impl Reader {
     // A fresh reader.
+    #[tactic(auto, unfolding(crate::specs::Stream::fresh))]
     pub fn new(tag: &[u8]) -> Reader
         ensures { result ≡ fresh tag.now }
     {
-        let place = start_for(tag);
-        let four = if tag.len() == 32 {
-            Tag::read(tag)
-        } else {
-            Tag::NONE
-        };
         Reader {
             stand: Stand {
                 have: 0,
-                tag: four,
-                place: place,
+                tag: Tag::try_from(tag).unwrap_or(Tag::NONE),
+                place: start_for(tag),
             },
             carry: [0; 200],
         }
     }
 
     // One call, by a reader that is passed on.
-    pub fn step(self, piece: &[u8]) -> Step
+    pub fn step(mut self, piece: &[u8]) -> Step
         ensures { result ≡ step_of self piece.now }
     {
-        let stand = self.stand;
-        let mut carry = self.carry;
-        let call = stand.step(&mut carry, piece);
-        let next = call.stand;
-        let answer = call.answer;
+        let call = self.stand.step(&mut self.carry, piece);
+        self.stand = call.stand;
         Step {
-            reader: Reader {
-                stand: next,
-                carry: carry,
-            },
-            answer: answer,
+            reader: self,
+            answer: call.answer,
         }
     }
 
     // The refusal if there was one, done after the end, else 1 at the record due. It changes nothing.
+    #[tactic(auto, unfolding(crate::specs::Stream::verdict_of))]
     pub fn verdict(self) -> Verdict
         ensures { result ≡ verdict_of self }
     {
-        let stand = self.stand;
-        let place = stand.place;
-        place.verdict()
+        self.stand.place.verdict()
     }
 }
 
 impl Stand {
     // One call, with the carry lent: it takes the smaller of the piece's length and the bytes missing from the record due.
+    #[tactic(auto, unfolding(crate::specs::Stream::step_of))]
     pub fn step(self, carry: &mut [u8; 200], piece: &[u8]) -> Call
         ensures { (result ≡ call_of (step_of (lent self carry.old) piece.now)) × (carry.new ≡ (step_of (lent self carry.old) piece.now).reader.carry) }
     {
-        let tag = self.tag;
-        let place = self.place;
-        let due = place.due;
-        let size = due.size();
+        let size = self.place.due.size();
         let lacks = missing(size, self.have);
         if halts(size, lacks, piece.len()) {
             return self.halt(carry, piece);
         }
-        let heard = hear(carry, self.have, tag, place, piece, lacks);
+        let heard = hear(carry, self.have, self.tag, self.place, piece, lacks);
         *carry = [0; 200];
-        if heard.number == 0 {
-            self.passed(heard.words, lacks)
-        } else {
-            self.failed(heard.number, lacks)
+        match heard {
+            Ok(words) => self.passed(words, lacks),
+            Err(number) => self.failed(number, lacks),
         }
     }
 
@@ -116,18 +77,15 @@ impl Stand {
     fn passed(self, w: Words, taken: usize) -> Call
         ensures { result ≡ call_of (passed_by self w taken) }
     {
-        let tag = self.tag;
-        let place = self.place;
         Call {
             stand: Stand {
                 have: 0,
-                tag: tag,
-                place: place.next(w),
+                place: self.place.next(w),
+                ..self
             },
             answer: Answer {
-                taken: taken,
-                found: place.record(w),
-                said: Said::Record,
+                taken,
+                found: Ok(Some(self.place.record(w))),
             },
         }
     }
@@ -136,26 +94,26 @@ impl Stand {
     pub(crate) fn failed(self, number: u32, taken: usize) -> Call
         ensures { result ≡ call_of (failed_by self number taken) }
     {
-        let tag = self.tag;
-        let place = self.place;
         Call {
             stand: Stand {
                 have: 0,
-                tag: tag,
-                place: place.refuse(number),
+                place: self.place.refuse(number),
+                ..self
             },
-            answer: silence(taken, Said::Refused(place.refusal(number))),
+            answer: Answer {
+                taken,
+                found: Err(self.place.refusal(number)),
+            },
         }
     }
 
     // A call that finds no whole record.
+    #[tactic(auto, unfolding(crate::specs::Stream::step_of))]
     pub(crate) fn halt(self, carry: &mut [u8; 200], piece: &[u8]) -> Call
         requires { halt_by (size_of self.place) (size_of self.place - self.have) (length piece.now) ≡ true }
         ensures { (result ≡ call_of (step_of (lent self carry.old) piece.now)) × (carry.new ≡ (step_of (lent self carry.old) piece.now).reader.carry) }
     {
-        let place = self.place;
-        let due = place.due;
-        if due.size() == 0 {
+        if self.place.due.size() == 0 {
             self.stop(carry, piece.len())
         } else {
             self.keep(carry, piece)
@@ -167,17 +125,17 @@ impl Stand {
         requires { length piece.now < size_of self.place - self.have }
         ensures { (result ≡ call_of (kept (lent self carry.old) piece.now)) × (carry.new ≡ (kept (lent self carry.old) piece.now).reader.carry) }
     {
-        let place = self.place;
-        let tag = self.tag;
-        let n = piece.len();
-        *carry = filled(*carry, self.have, piece, n);
+        let taken = piece.len();
+        *carry = filled(*carry, self.have, piece, taken);
         Call {
             stand: Stand {
-                have: self.have + n,
-                tag: tag,
-                place: place,
+                have: self.have + taken,
+                ..self
             },
-            answer: silence(n, Said::Nothing),
+            answer: Answer {
+                taken,
+                found: Ok(None),
+            },
         }
     }
 
@@ -185,24 +143,17 @@ impl Stand {
     fn stop(self, carry: &mut [u8; 200], length: usize) -> Call
         ensures { (result ≡ call_of (stopped (lent self carry.old) length)) × (carry.new ≡ (stopped (lent self carry.old) length).reader.carry) }
     {
-        let place = self.place;
-        let verdict = place.verdict();
-        match verdict {
-            Verdict::Refused(refusal) => Call {
-                stand: self,
-                answer: silence(0, Said::Refused(refusal)),
-            },
-            Verdict::Accepted(_) => {
-                if length == 0 {
-                    Call {
-                        stand: self,
-                        answer: silence(0, Said::Nothing),
-                    }
-                } else {
-                    *carry = [0; 200];
-                    self.failed(Refusal::AFTER_END, 0)
-                }
+        let found = match self.place.verdict() {
+            Err(refusal) => Err(refusal),
+            Ok(_) if length == 0 => Ok(None),
+            Ok(_) => {
+                *carry = [0; 200];
+                return self.failed(Refusal::AFTER_END, 0);
             }
+        };
+        Call {
+            stand: self,
+            answer: Answer { taken: 0, found },
         }
     }
 }

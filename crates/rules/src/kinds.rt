@@ -1,16 +1,16 @@
 // Kinds of record: their rows in the paper's table, which of them are due, and the number where one is not.
 ghost use Rattle.std.specs.Prelude.{◌≡◌};
-ghost use Rattle.rules.specs.Kinds.{row_of, same_kind, is_due, not_due};
+ghost use Rattle.rules.specs.Kinds.{row_of, is_due, not_due};
 
 use crate::{Due, Kind};
 use words::Refusal;
 
-impl Kind {
-    // The row of the paper's table.
-    pub fn row(self) -> u32
-        ensures { result ≡ row_of self }
-    {
-        match self {
+// The row of the paper's table.
+impl From<Kind> for u32 {
+    ghost from_gives = { λ kind row. row ≡ row_of kind };
+
+    fn from(kind: Kind) -> u32 {
+        match kind {
             Kind::Header => 0,
             Kind::FileHead => 1,
             Kind::Segment => 2,
@@ -22,30 +22,23 @@ impl Kind {
             Kind::Footer => 8,
         }
     }
-
-    pub fn is(self, other: Kind) -> bool
-        ensures { result ≡ same_kind self other }
-    {
-        self.row() == other.row()
-    }
 }
 
 impl Due {
     // Whether a record of this kind is due.
-    pub fn takes(self, k: Kind) -> bool
-        ensures { result ≡ is_due self k }
+    pub fn takes(self, kind: Kind) -> bool
+        ensures { result ≡ is_due self kind }
     {
         match self {
-            Due::Header => k.is(Kind::Header),
-            Due::FileHead => k.is(Kind::FileHead) | k.is(Kind::Bookend),
-            Due::Segment(_) => k.is(Kind::Segment),
-            Due::Verification(_) => k.is(Kind::Verification),
-            Due::Metadata => k.is(Kind::Metadata),
-            Due::XorbHead => k.is(Kind::XorbHead) | k.is(Kind::Bookend),
-            Due::Chunk(_, _, _) => k.is(Kind::Chunk),
-            Due::Footer => k.is(Kind::Footer),
-            Due::End => false,
-            Due::Refused(_) => false,
+            Due::Header => kind == Kind::Header,
+            Due::FileHead => (kind == Kind::FileHead) | (kind == Kind::Bookend),
+            Due::Segment(_) => kind == Kind::Segment,
+            Due::Verification(_) => kind == Kind::Verification,
+            Due::Metadata => kind == Kind::Metadata,
+            Due::XorbHead => (kind == Kind::XorbHead) | (kind == Kind::Bookend),
+            Due::Chunk(_, _, _) => kind == Kind::Chunk,
+            Due::Footer => kind == Kind::Footer,
+            Due::End | Due::Refused(_) => false,
         }
     }
 
@@ -54,16 +47,8 @@ impl Due {
         ensures { result ≡ not_due self }
     {
         match self {
-            Due::Header => Refusal::NOT_DUE,
-            Due::FileHead => Refusal::NOT_DUE,
-            Due::Segment(_) => Refusal::NOT_DUE,
-            Due::Verification(_) => Refusal::NOT_DUE,
-            Due::Metadata => Refusal::NOT_DUE,
-            Due::XorbHead => Refusal::NOT_DUE,
-            Due::Chunk(_, _, _) => Refusal::NOT_DUE,
-            Due::Footer => Refusal::NOT_DUE,
-            Due::End => Refusal::NOT_DUE,
             Due::Refused(number) => number,
+            _ => Refusal::NOT_DUE,
         }
     }
 }

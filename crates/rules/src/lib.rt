@@ -14,19 +14,19 @@ ghost use Rattle.rules.specs.Rules.{moved_to};
 pub use checks::{further_records, same_31};
 
 // Kinds of number that are not exchangeable.
-#[derive(Clone, Copy)]
+#[derive(Clone, Copy, Debug, PartialEq, Eq)]
 pub struct FileNumber(pub u32);
 
-#[derive(Clone, Copy)]
+#[derive(Clone, Copy, Debug, PartialEq, Eq)]
 pub struct BlockNumber(pub u32);
 
 // It crosses to a host as it is, in a table of planned rows.
 #[repr(C)]
-#[derive(Clone, Copy)]
+#[derive(Clone, Copy, Debug, PartialEq, Eq)]
 pub struct ChunkIndex(pub u32);
 
 // The rows of the paper's table.
-#[derive(Clone, Copy)]
+#[derive(Clone, Copy, Debug, PartialEq, Eq)]
 pub enum Kind {
     Header,
     FileHead,
@@ -40,7 +40,7 @@ pub enum Kind {
 }
 
 // What is due: with the records of this kind that are left, and for chunks the sum so far and the head's bytes in xorb.
-#[derive(Clone, Copy)]
+#[derive(Clone, Copy, Debug, PartialEq, Eq)]
 pub enum Due {
     Header,
     FileHead,
@@ -56,7 +56,7 @@ pub enum Due {
 
 // How many there were of each, and the sum of the segments' bytes. They cross to a host as they are.
 #[repr(C)]
-#[derive(Clone, Copy)]
+#[derive(Clone, Copy, Debug, PartialEq, Eq)]
 pub struct Totals {
     pub files: u64,
     pub segments: u64,
@@ -65,9 +65,19 @@ pub struct Totals {
     pub bytes: u64,
 }
 
+impl Totals {
+    pub const NONE: Totals = Totals {
+        files: 0,
+        segments: 0,
+        xorbs: 0,
+        chunks: 0,
+        bytes: 0,
+    };
+}
+
 // A place in the format: where the record due starts, what the records before it said, and what is due.
 // `offset` is the xorb offset, 0 while it is not known; `flags` and `entries` are those of the last file head.
-#[derive(Clone, Copy)]
+#[derive(Clone, Copy, Debug, PartialEq, Eq)]
 pub struct Place {
     pub at: Position,
     pub offset: Position,
@@ -86,21 +96,17 @@ impl Place {
     fn moved_to(self, at: u64, totals: Totals, due: Due) -> Place
         ensures { (result ≡ moved_to at totals due self) × (self.offset.0 < 18446744073709551616) }
     {
-        let offset = self.offset;
         Place {
             at: Position(at),
-            offset: offset,
-            totals: totals,
-            flags: self.flags,
-            entries: self.entries,
-            footer: self.footer,
-            due: due,
+            totals,
+            due,
+            ..self
         }
     }
 }
 
 // A record as it is handed out. Of a footer, `words` holds key, created and expiry, and `offset` the xorb offset; elsewhere that is 0.
-#[derive(Clone, Copy)]
+#[derive(Clone, Copy, Debug, PartialEq, Eq)]
 pub struct Record {
     pub at: Position,
     pub offset: Position,
@@ -109,22 +115,12 @@ pub struct Record {
 }
 
 // What is said of an accepted shard.
-#[derive(Clone, Copy)]
+#[derive(Clone, Copy, Debug, PartialEq, Eq)]
 pub struct Summary {
     pub length: u64,
     pub totals: Totals,
     pub footer: bool,
 }
 
-#[derive(Clone, Copy)]
-pub enum Verdict {
-    Accepted(Summary),
-    Refused(Refusal),
-}
-
-// The paper's numbers for a verdict.
-#[derive(Clone, Copy)]
-pub struct Numbers {
-    pub refusal: Refusal,
-    pub summary: Summary,
-}
+// An accepted shard, or why and where it is refused.
+pub type Verdict = Result<Summary, Refusal>;

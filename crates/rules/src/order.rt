@@ -1,5 +1,5 @@
 // What a record is, and the place after it: its bytes, what it counts, what it leaves to remember, and what is due then.
-ghost use Rattle.std.specs.Prelude.{◌≡◌, ◌+◌, ◌-◌};
+ghost use Rattle.std.specs.Prelude.{◌≡◌, ◌+◌, ◌-◌, ◌==◌};
 ghost use Rattle.words.specs.Record.{is_ones};
 ghost use Rattle.words.specs.Checks.{pick};
 ghost use Rattle.rules.specs.Rules.{size_by, footer_due, kind_of, record_of, next_of, many, after_segments, after_verifications, chunks_from, due_by, counts, plus, count_by, known_by, with_footer, with_offset, with_file};
@@ -7,7 +7,7 @@ ghost use Rattle.rules.specs.Held.{in64, held, held_totals, held_due};
 ghost use Rattle.rules.specs.declared.Kind.TheVariants as kind;
 ghost use Rattle.rules.specs.declared.Due.TheVariants as due;
 
-use crate::checks::{bit_30, bit_31};
+use crate::checks::has_bit;
 use crate::{Due, Kind, Place, Record, Totals};
 use words::hash::is_ones;
 use words::number::joined;
@@ -17,26 +17,27 @@ use words::{Footer, Position, Words};
 fn plus64(x: u64, y: u64) -> u64
     ensures { result ≡ in64 (x + y) }
 {
-    std::num::wrapping_add_u64(x, y)
+    x.wrapping_add(y)
 }
 
 fn less_one(n: u32) -> u32
     ensures { result ≡ n - 1 }
 {
-    if n == 0 { 0 } else { n - 1 }
+    n.saturating_sub(1)
 }
 
-fn bookend_or(ones: bool, k: Kind) -> Kind
-    ensures { result ≡ pick ones kind.Bookend k }
+// So many records of one kind, or what comes after them where there are none.
+fn many(n: u32, one: Due, after: Due) -> Due
+    ensures { result ≡ pick (n == 0) after one }
 {
-    if ones { Kind::Bookend } else { k }
+    if n == 0 { after } else { one }
 }
 
 // What is due: after the verifications, after the segments, in a file, in a xorb, after the second bookend.
 fn last_due(flags: u32) -> Due
     ensures { result ≡ held_due (after_verifications flags) }
 {
-    if bit_30(flags) {
+    if has_bit::<30>(flags) {
         Due::Metadata
     } else {
         Due::FileHead
@@ -46,17 +47,13 @@ fn last_due(flags: u32) -> Due
 fn verifications_due(n: u32, flags: u32) -> Due
     ensures { result ≡ held_due (many n due.Verification (after_verifications flags)) }
 {
-    if n == 0 {
-        last_due(flags)
-    } else {
-        Due::Verification(n)
-    }
+    many(n, Due::Verification(n), last_due(flags))
 }
 
 fn parts_due(flags: u32, n: u32) -> Due
     ensures { result ≡ held_due (after_segments flags n) }
 {
-    if bit_31(flags) {
+    if has_bit::<31>(flags) {
         verifications_due(n, flags)
     } else {
         last_due(flags)
@@ -66,22 +63,14 @@ fn parts_due(flags: u32, n: u32) -> Due
 fn segments_due(n: u32, flags: u32, entries: u32) -> Due
     ensures { result ≡ held_due (many n due.Segment (after_segments flags entries)) }
 {
-    if n == 0 {
-        parts_due(flags, entries)
-    } else {
-        Due::Segment(n)
-    }
+    many(n, Due::Segment(n), parts_due(flags, entries))
 }
 
 fn chunks_due(n: u32, sum: u64, bytes: u32, total: u64) -> Due
     ensures { result ≡ held_due (chunks_from n (sum + bytes) total) }
 {
     let s = plus64(sum, bytes as u64);
-    if n == 0 {
-        Due::XorbHead
-    } else {
-        Due::Chunk(n, s, total)
-    }
+    many(n, Due::Chunk(n, s, total), Due::XorbHead)
 }
 
 fn end_due(footer: bool) -> Due
@@ -93,8 +82,7 @@ fn end_due(footer: bool) -> Due
 fn after_file_head(w: Words) -> Due
     ensures { result ≡ held_due (pick (is_ones w.hash) due.XorbHead (many w.b due.Segment (after_segments w.a w.b))) }
 {
-    let h = w.hash;
-    if is_ones(h) {
+    if is_ones(w.hash) {
         Due::XorbHead
     } else {
         segments_due(w.b, w.a, w.b)
@@ -104,40 +92,36 @@ fn after_file_head(w: Words) -> Due
 fn after_xorb_head(footer: bool, w: Words) -> Due
     ensures { result ≡ held_due (pick (is_ones w.hash) (pick footer due.Footer due.End) (chunks_from w.b 0 w.c)) }
 {
-    let h = w.hash;
-    if is_ones(h) {
+    if is_ones(w.hash) {
         end_due(footer)
     } else {
         chunks_due(w.b, 0, 0, w.c as u64)
     }
 }
 
-fn count(files: u64, segments: u64, xorbs: u64, chunks: u64, bytes: u64) -> Totals
-    ensures { result ≡ counts files segments xorbs chunks bytes }
-{
-    Totals {
-        files,
-        segments,
-        xorbs,
-        chunks,
-        bytes,
-    }
-}
-
 // What a record counts.
-fn count_of(k: Kind, w: Words) -> Totals
-    ensures { result ≡ count_by k w }
+fn count_of(kind: Kind, w: Words) -> Totals
+    ensures { result ≡ count_by kind w }
 {
-    match k {
-        Kind::Header => count(0, 0, 0, 0, 0),
-        Kind::FileHead => count(1, 0, 0, 0, 0),
-        Kind::Segment => count(0, 1, 0, 0, w.b as u64),
-        Kind::Verification => count(0, 0, 0, 0, 0),
-        Kind::Metadata => count(0, 0, 0, 0, 0),
-        Kind::XorbHead => count(0, 0, 1, 0, 0),
-        Kind::Chunk => count(0, 0, 0, 1, 0),
-        Kind::Bookend => count(0, 0, 0, 0, 0),
-        Kind::Footer => count(0, 0, 0, 0, 0),
+    match kind {
+        Kind::FileHead => Totals {
+            files: 1,
+            ..Totals::NONE
+        },
+        Kind::Segment => Totals {
+            segments: 1,
+            bytes: w.b as u64,
+            ..Totals::NONE
+        },
+        Kind::XorbHead => Totals {
+            xorbs: 1,
+            ..Totals::NONE
+        },
+        Kind::Chunk => Totals {
+            chunks: 1,
+            ..Totals::NONE
+        },
+        _ => Totals::NONE,
     }
 }
 
@@ -161,16 +145,9 @@ impl Due {
         ensures { result ≡ size_by self }
     {
         match self {
-            Due::Header => Words::SIZE,
-            Due::FileHead => Words::SIZE,
-            Due::Segment(_) => Words::SIZE,
-            Due::Verification(_) => Words::SIZE,
-            Due::Metadata => Words::SIZE,
-            Due::XorbHead => Words::SIZE,
-            Due::Chunk(_, _, _) => Words::SIZE,
             Due::Footer => Footer::SIZE,
-            Due::End => 0,
-            Due::Refused(_) => 0,
+            Due::End | Due::Refused(_) => 0,
+            _ => Words::SIZE,
         }
     }
 
@@ -178,40 +155,27 @@ impl Due {
     pub fn footer_due(self) -> bool
         ensures { result ≡ footer_due self }
     {
-        match self {
-            Due::Header => false,
-            Due::FileHead => false,
-            Due::Segment(_) => false,
-            Due::Verification(_) => false,
-            Due::Metadata => false,
-            Due::XorbHead => false,
-            Due::Chunk(_, _, _) => false,
-            Due::Footer => true,
-            Due::End => false,
-            Due::Refused(_) => false,
-        }
+        matches!(self, Due::Footer)
     }
 }
 
 impl Place {
     // What a record is.
+    #[tactic(auto, unfolding(crate::specs::Rules::kind_of))]
     pub fn kind(self, w: Words) -> Kind
         ensures { result ≡ kind_of self w }
     {
-        let h = w.hash;
-        let ones = is_ones(h);
-        let due = self.due;
-        match due {
+        match self.due {
             Due::Header => Kind::Header,
-            Due::FileHead => bookend_or(ones, Kind::FileHead),
+            Due::FileHead if is_ones(w.hash) => Kind::Bookend,
+            Due::FileHead => Kind::FileHead,
             Due::Segment(_) => Kind::Segment,
             Due::Verification(_) => Kind::Verification,
             Due::Metadata => Kind::Metadata,
-            Due::XorbHead => bookend_or(ones, Kind::XorbHead),
+            Due::XorbHead if is_ones(w.hash) => Kind::Bookend,
+            Due::XorbHead => Kind::XorbHead,
             Due::Chunk(_, _, _) => Kind::Chunk,
-            Due::Footer => Kind::Footer,
-            Due::End => Kind::Footer,
-            Due::Refused(_) => Kind::Footer,
+            Due::Footer | Due::End | Due::Refused(_) => Kind::Footer,
         }
     }
 
@@ -219,22 +183,20 @@ impl Place {
     fn shown_offset(self) -> Position
         ensures { result ≡ pick (footer_due self.due) self.offset (record { 0 = 0 }) }
     {
-        let due = self.due;
-        if due.footer_due() {
-            let offset = self.offset;
-            offset
+        if self.due.footer_due() {
+            self.offset
         } else {
             Position(0)
         }
     }
 
     // A record as it is handed out.
+    #[tactic(auto, unfolding(crate::specs::Rules::record_of))]
     pub fn record(self, w: Words) -> Record
         ensures { result ≡ record_of self w }
     {
-        let at = self.at;
         Record {
-            at: at,
+            at: self.at,
             offset: self.shown_offset(),
             words: w,
             kind: self.kind(w),
@@ -244,55 +206,15 @@ impl Place {
     fn due_after(self, w: Words) -> Due
         ensures { result ≡ held_due (due_by self.due self w) }
     {
-        let due = self.due;
-        match due {
-            Due::Header => Due::FileHead,
+        match self.due {
+            Due::Header | Due::Metadata => Due::FileHead,
             Due::FileHead => after_file_head(w),
             Due::Segment(left) => segments_due(less_one(left), self.flags, self.entries),
             Due::Verification(left) => verifications_due(less_one(left), self.flags),
-            Due::Metadata => Due::FileHead,
             Due::XorbHead => after_xorb_head(self.footer, w),
             Due::Chunk(left, sum, total) => chunks_due(less_one(left), sum, w.b, total),
-            Due::Footer => Due::End,
-            Due::End => Due::End,
+            Due::Footer | Due::End => Due::End,
             Due::Refused(number) => Due::Refused(number),
-        }
-    }
-
-    fn with_footer(self, footer: bool) -> Place
-        ensures { result ≡ with_footer footer self }
-    {
-        let mut p = self;
-        p.footer = footer;
-        p
-    }
-
-    fn with_file(self, flags: u32, entries: u32) -> Place
-        ensures { result ≡ with_file flags entries self }
-    {
-        let mut p = self;
-        p.flags = flags;
-        p.entries = entries;
-        p
-    }
-
-    fn with_offset(self, offset: u64) -> Place
-        ensures { result ≡ with_offset offset self }
-    {
-        let o = Position(offset);
-        let mut p = self;
-        p.offset = o;
-        p
-    }
-
-    fn past_file_head(self, after: u64, w: Words) -> Place
-        ensures { result ≡ pick (is_ones w.hash) (with_offset after self) (with_file w.a w.b self) }
-    {
-        let h = w.hash;
-        if is_ones(h) {
-            self.with_offset(after)
-        } else {
-            self.with_file(w.a, w.b)
         }
     }
 
@@ -300,19 +222,21 @@ impl Place {
     fn known(self, after: u64, w: Words) -> Place
         ensures { result ≡ known_by self.due after self w }
     {
-        let size = joined(w.c, w.d);
-        let due = self.due;
-        match due {
-            Due::Header => self.with_footer(size == 200),
-            Due::FileHead => self.past_file_head(after, w),
-            Due::Segment(_) => self,
-            Due::Verification(_) => self,
-            Due::Metadata => self,
-            Due::XorbHead => self,
-            Due::Chunk(_, _, _) => self,
-            Due::Footer => self,
-            Due::End => self,
-            Due::Refused(_) => self,
+        match self.due {
+            Due::Header => Place {
+                footer: joined(w.c, w.d) == 200,
+                ..self
+            },
+            Due::FileHead if is_ones(w.hash) => Place {
+                offset: Position(after),
+                ..self
+            },
+            Due::FileHead => Place {
+                flags: w.a,
+                entries: w.b,
+                ..self
+            },
+            _ => self,
         }
     }
 
@@ -320,11 +244,8 @@ impl Place {
     pub fn next(self, w: Words) -> Place
         ensures { result ≡ held (next_of self w) }
     {
-        let at = self.at;
-        let totals = self.totals;
-        let due = self.due;
-        let after = plus64(at.0, due.size() as u64);
-        let counted = totals.with(count_of(self.kind(w), w));
+        let after = plus64(self.at.0, self.due.size() as u64);
+        let counted = self.totals.with(count_of(self.kind(w), w));
         let then = self.due_after(w);
         self.known(after, w).moved_to(after, counted, then)
     }

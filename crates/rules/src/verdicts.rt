@@ -1,8 +1,8 @@
 // Where reading and writing begin, where they stop, and what is said there.
 ghost use Rattle.std.specs.Prelude.{◌≡◌};
-ghost use Rattle.rules.specs.Verdicts.{refused, refusal_at, summary_of, verdict_at, numbers_of};
+ghost use Rattle.rules.specs.Verdicts.{refused, refusal_at, summary_of, verdict_at};
 
-use crate::{Due, Numbers, Place, Summary, Totals, Verdict};
+use crate::{Due, Place, Summary, Totals, Verdict};
 use words::{Position, Refusal};
 
 impl Place {
@@ -10,13 +10,7 @@ impl Place {
     pub const START: Place = Place {
         at: Position(0),
         offset: Position(0),
-        totals: Totals {
-            files: 0,
-            segments: 0,
-            xorbs: 0,
-            chunks: 0,
-            bytes: 0,
-        },
+        totals: Totals::NONE,
         flags: 0,
         entries: 0,
         footer: false,
@@ -26,75 +20,38 @@ impl Place {
     pub fn refuse(self, number: u32) -> Place
         ensures { result ≡ refused number self }
     {
-        let at = self.at;
-        let totals = self.totals;
-        self.moved_to(at.0, totals, Due::Refused(number))
+        self.moved_to(self.at.0, self.totals, Due::Refused(number))
     }
 
     // A refusal at the record due.
     pub fn refusal(self, number: u32) -> Refusal
         ensures { result ≡ refusal_at number self }
     {
-        let at = self.at;
-        Refusal { at, number }
+        Refusal {
+            at: self.at,
+            number,
+        }
     }
 
     // The refusal if there was one, done after the end, else 1 at the record due.
+    #[tactic(auto, unfolding(crate::specs::Verdicts::verdict_at))]
     pub fn verdict(self) -> Verdict
         ensures { result ≡ verdict_at self }
     {
-        let due = self.due;
-        match due {
-            Due::Header => Verdict::Refused(self.refusal(Refusal::ENDS_EARLY)),
-            Due::FileHead => Verdict::Refused(self.refusal(Refusal::ENDS_EARLY)),
-            Due::Segment(_) => Verdict::Refused(self.refusal(Refusal::ENDS_EARLY)),
-            Due::Verification(_) => Verdict::Refused(self.refusal(Refusal::ENDS_EARLY)),
-            Due::Metadata => Verdict::Refused(self.refusal(Refusal::ENDS_EARLY)),
-            Due::XorbHead => Verdict::Refused(self.refusal(Refusal::ENDS_EARLY)),
-            Due::Chunk(_, _, _) => Verdict::Refused(self.refusal(Refusal::ENDS_EARLY)),
-            Due::Footer => Verdict::Refused(self.refusal(Refusal::ENDS_EARLY)),
-            Due::End => Verdict::Accepted(self.summary()),
-            Due::Refused(number) => Verdict::Refused(self.refusal(number)),
+        match self.due {
+            Due::End => Ok(self.summary()),
+            Due::Refused(number) => Err(self.refusal(number)),
+            _ => Err(self.refusal(Refusal::ENDS_EARLY)),
         }
     }
 
     fn summary(self) -> Summary
         ensures { result ≡ summary_of self }
     {
-        let at = self.at;
-        let totals = self.totals;
         Summary {
-            length: at.0,
-            totals: totals,
+            length: self.at.0,
+            totals: self.totals,
             footer: self.footer,
-        }
-    }
-}
-
-impl Verdict {
-    // The paper's numbers: an accepted shard has no number and no position, a refusal has zeros for the rest.
-    pub fn numbers(self) -> Numbers
-        ensures { result ≡ numbers_of self }
-    {
-        match self {
-            Verdict::Accepted(summary) => Numbers {
-                refusal: Refusal::NONE,
-                summary: summary,
-            },
-            Verdict::Refused(refusal) => Numbers {
-                refusal: refusal,
-                summary: Summary {
-                    length: 0,
-                    totals: Totals {
-                        files: 0,
-                        segments: 0,
-                        xorbs: 0,
-                        chunks: 0,
-                        bytes: 0,
-                    },
-                    footer: false,
-                },
-            },
         }
     }
 }

@@ -1,16 +1,15 @@
 -- Offering a piece until it is used up or refused is what `fed_one` says: a call that takes something leaves the rest to be fed, a call that
 -- takes nothing has refused and nothing changes after it, and an empty rest changes nothing. Assumes nothing.
-use Rattle.std.proofs.Common.{◌≡◌, ℕ, zero, suc, ◌+◌, ◌-◌, ◌<◌, ◌≤◌, List, [], length, take, drop, sym, refl, ap, ◌∙◌, arith, length-drop, drop_of_length-le, get_or-drop, take_all, drop-drop, ne_eqb}
+use Rattle.std.proofs.Common.{◌≡◌, ℕ, zero, suc, ◌+◌, ◌-◌, ◌<◌, ◌≤◌, List, [], length, take, drop, sym, refl, ap, ◌∙◌, arith, length-drop, drop_of_length-le, get_or-drop, ne_eqb, Ok, Err}
+use Rattle.std.proofs.lemmas.List.{take_rest}
 use Rattle.words.specs.Le.{Bytes}
 use Rattle.words.proofs.Numbers.{bytes_none}
 use Rattle.words.specs.Record.{tag_at}
 use Rattle.cut.specs.Format.{Run}
 use Rattle.cut.proofs.Runs.{run_nil}
 use Rattle.rules.specs.Rules.{size_of}
-use Rattle.rules.specs.Verdicts.{verdict_at}
+use Rattle.rules.specs.Verdicts.{Verdict, verdict_at}
 use Rattle.words.specs.declared.Refusal.{Refusal}
-use Rattle.rules.specs.declared.Verdict.{Verdict}
-use Rattle.rules.specs.declared.Verdict.TheVariants as verdict
 use Rattle.rules.specs.declared.Place.{Place}
 use Rattle.rules.specs.declared.Record.{Record}
 use Rattle.layout.specs.Scan.{format}
@@ -18,7 +17,6 @@ use Rattle.reader.specs.Stream.{tag_in, step_of, stopped_by}
 use Rattle.reader.specs.Readings.{Begun, after, Seen, offers, fed_one, seen_of}
 use Rattle.reader.specs.declared.Reader.{Reader}
 use Rattle.reader.specs.declared.Step.{Step}
-use Rattle.reader.specs.declared.Said.TheVariants as said
 use Rattle.reader.proofs.Calls.{step_none}
 use Rattle.reader.proofs.Cut.{offers_run}
 use Rattle.reader.proofs.Reached.{stands}
@@ -40,9 +38,9 @@ stays_so r f zero piece = refl
 stays_so r f (suc n) piece = rw (f piece) (stays_so r f n (drop (step_of r piece).answer.taken piece))
 
 -- a call with a piece that is not empty refuses where nothing is due
-refuses_there : (r : Reader) (n : ℕ) → 0 < n → (v : Verdict) → (refusal : Refusal) × ((stopped_by v r n).answer.said ≡ said.Refused refusal)
-refuses_there r n l (verdict.Refused refusal) = (refusal, refl)
-refuses_there r n l (verdict.Accepted summary) = rw (ne_eqb n 0 (λ e. omega arith)) (_, refl)
+refuses_there : (r : Reader) (n : ℕ) → 0 < n → (v : Verdict) → (refusal : Refusal) × ((stopped_by v r n).answer.found ≡ Err refusal)
+refuses_there r n l (Err refusal) = (refusal, refl)
+refuses_there r n l (Ok summary) = rw (ne_eqb n 0 (λ e. omega arith)) (_, refl)
 
 fed_refused : (r : Reader) → Begun r → (piece : List ℕ) → 0 < length piece → (step_of r piece).answer.taken ≡ 0 → (fed_one r piece).reader ≡ (step_of r piece).reader
 unfolding offers
@@ -57,7 +55,7 @@ fed_refused r b piece l e =
     none (suc n) f = absurd (omega (arith, reader.takes r b piece (omega (arith, f)) l))
 
 -- an empty rest changes nothing
-fed_none : (r : Reader) → Begun r → (fed_one r []).reader ≡ r
+pub fed_none : (r : Reader) → Begun r → (fed_one r []).reader ≡ r
 fed_none r b =
     let k = stands b in
     let f = format (tag_at k.tag) in
@@ -66,32 +64,37 @@ fed_none r b =
 
 -- ## The turns of the loop
 
--- so far: a begun reader was fed all before a position, and has the rest to come
-abbrev pub SoFar : Reader → List ℕ → Reader → ℕ → Type 0
-SoFar r₀ piece r at = Begun r₀ → Begun r × ((fed_one r (drop at piece)).reader ≡ (fed_one r₀ piece).reader)
+-- feeding what is left of a piece to the reader so far gives what feeding all of it to the first reader gives
+pub record Left (r₀ : Reader) (piece : List ℕ) (r : Reader) (rest : List ℕ) : Type 0 where
+  pub begun : Begun r
+  pub bytes : Bytes rest
+  pub same : (fed_one r rest).reader ≡ (fed_one r₀ piece).reader
 
-pub so_done : (r₀ r : Reader) (piece : List ℕ) (at : ℕ) → SoFar r₀ piece r at → length piece ≤ at → Begun r₀ → r ≡ (fed_one r₀ piece).reader
-so_done r₀ r piece at so l b =
+-- so far, of a begun reader
+abbrev pub SoFar : Reader → List ℕ → Reader → List ℕ → Type 0
+SoFar r₀ piece r rest = Begun r₀ → Left r₀ piece r rest
+
+pub so_done : (r₀ r : Reader) (piece rest : List ℕ) → SoFar r₀ piece r rest → length rest ≤ 0 → Begun r₀ → r ≡ (fed_one r₀ piece).reader
+so_done r₀ r piece rest so l b =
     let s = so b in
-    sym (fed_none r s.0) ∙ ap (λ (x : List ℕ). (fed_one r x).reader) (sym (drop_of_length-le piece l)) ∙ s.1
+    sym (fed_none r s.begun) ∙ ap (λ (x : List ℕ). (fed_one r x).reader) (sym (drop_of_length-le rest l)) ∙ s.same
 
--- a call with what is left from a position on, as the code lends it
-module _ (r : Reader) (piece : List ℕ) (at : ℕ) (s : Step) (e : s ≡ step_of r (take (length piece - at) (drop at piece))) where
-  told : s ≡ step_of r (drop at piece)
-  told = e ∙ ap (step_of r) (take_all (length piece - at) (drop at piece) (simp length-drop (omega arith)))
+-- a call with what is left
+module _ (r₀ : Reader) (piece : List ℕ) (r : Reader) (rest : List ℕ) (so : SoFar r₀ piece r rest) (s : Step) (e : s ≡ step_of r rest) where
+  pub within : s.answer.taken ≤ length rest
+  within = rw e (reader.most r rest)
 
-  pub within : s.answer.taken ≤ length piece - at
-  within = rw told (simp length-drop at (reader.most r (drop at piece)))
+  pub so_refused : 0 < length rest → s.answer.taken ≡ 0 → Begun r₀ → s.reader ≡ (fed_one r₀ piece).reader
+  so_refused l z b =
+      rw e (sym (fed_refused r (so b).begun rest l (rw e at z)) ∙ (so b).same)
 
-  module _ (r₀ : Reader) (so : SoFar r₀ piece r at) where
-    pub so_refused : at < length piece → s.answer.taken ≡ 0 → Begun r₀ → s.reader ≡ (fed_one r₀ piece).reader
-    so_refused l z b =
-        let k : 0 < length (drop at piece) = simp length-drop (omega arith) in
-        rw told (sym (fed_refused r (so b).0 (drop at piece) k (rw told at z)) ∙ (so b).1)
-
-    pub so_on : Bytes piece → (s.answer.taken ≡ 0 → ⊥) → SoFar r₀ piece s.reader (at + s.answer.taken)
-    so_on y n b =
-        let x : Bytes (drop at piece) = λ i. rw get_or-drop (y (at + i)) in
-        let k : 0 < s.answer.taken = omega arith in
-        let l : 0 < (step_of r (drop at piece)).answer.taken = rw told at k in
-        rw (told, ← drop-drop (step_of r (drop at piece)).answer.taken at piece) (after (so b).0 (drop at piece) x, sym (fed_more r (so b).0 (drop at piece) x l) ∙ (so b).1)
+  -- what is left then, as the code lends it
+  pub so_on : (s.answer.taken ≡ 0 → ⊥) → SoFar r₀ piece s.reader (take (length rest - s.answer.taken) (drop s.answer.taken rest))
+  so_on n b =
+      let k : 0 < s.answer.taken = omega arith in
+      rw (e, take_rest rest (step_of r rest).answer.taken)
+      (record {
+        begun = after (so b).begun rest (so b).bytes;
+        bytes = λ i. rw get_or-drop ((so b).bytes ((step_of r rest).answer.taken + i));
+        same = sym (fed_more r (so b).begun rest (so b).bytes (rw e at k)) ∙ (so b).same;
+      })

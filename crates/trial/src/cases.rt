@@ -1,79 +1,113 @@
-// Cases on the input, part by part: a part says its length first, in one byte or in four. A read that fails is taken for the end of the input.
-ghost use Rattle.std.specs.Prelude.{◌≤◌, length};
+// Cases on an input, part by part: a part says its length first, in one byte or in four. A read that fails is taken for the end of the input.
+ghost use Rattle.std.specs.Prelude.{◌≤◌};
 
+use std::alloc::{AllocError, Global};
 use std::io;
 use std::io::{Read, Write};
 use text::input::read_full;
-use text::say;
-use words::number::u32_at;
 
-// The bytes that a tag and a shard may have.
-pub const TAG_MOST: usize = 255;
-
+// The bytes that a shard may have.
 pub const SHARD_MOST: usize = 8192;
 
-// So many bytes were read to the start of a buffer; `whole` if the part has no more, `ended` if the input has no further part.
+// Why a case is not told.
+#[derive(Debug, Drop)]
+pub enum CaseError {
+    // The input has no further case.
+    End,
+    // It ends in a case, or a length is too large.
+    Broken,
+    // Memory ran out, or a write failed.
+    Failed(io::Error),
+}
+
+impl From<io::Error> for CaseError {
+    fn from(error: io::Error) -> CaseError {
+        CaseError::Failed(error)
+    }
+}
+
+impl From<AllocError> for CaseError {
+    fn from(error: AllocError) -> CaseError {
+        CaseError::Failed(io::Error::from(error))
+    }
+}
+
+// An input that cases are read from, and where their parts are kept.
 #[derive(Drop)]
-pub struct Part {
-    pub size: usize,
-    pub whole: bool,
-    pub ended: bool,
+pub struct Cases<R> {
+    alloc: Global,
+    input: R,
 }
 
-fn broken(ended: bool) -> Part
-    ensures { result.size ≤ 0 }
-{
-    Part {
-        size: 0,
-        whole: false,
-        ended: ended,
+impl<R: Read> Cases<R> {
+    pub fn new(alloc: Global, input: R) -> Cases<R> {
+        Cases { alloc, input }
     }
-}
 
-// A part of so many bytes.
-fn read_part<R: Read>(input: &mut R, buf: &mut [u8], n: usize) -> Part
-    ensures { result.size ≤ length buf.old }
-{
-    if buf.len() < n {
-        return broken(false);
+    // The first part of a case, whose length is one byte.
+    pub fn first(&mut self) -> Result<Vec<u8>, CaseError> {
+        let length = self.length(1).ok_or(CaseError::End)?;
+        self.part(length)
     }
-    let filled = read_full(input, &mut buf[0..n]);
-    Part {
-        size: n,
-        whole: filled.size == n,
-        ended: false,
+
+    // A part whose length is one byte.
+    pub fn short(&mut self) -> Result<Vec<u8>, CaseError> {
+        let length = self.length(1).ok_or(CaseError::Broken)?;
+        self.part(length)
     }
-}
 
-pub fn wide(x: u8) -> usize {
-    x as usize
-}
-
-// A part whose length is one byte.
-pub fn short_part<R: Read>(input: &mut R, buf: &mut [u8]) -> Part
-    ensures { result.size ≤ length buf.old }
-{
-    let mut size = [0u8; 1];
-    let filled = read_full(input, &mut size);
-    if filled.size == 0 {
-        return broken(true);
+    // A part whose length is four bytes, and at most so many.
+    pub fn long(&mut self, most: usize) -> Result<Vec<u8>, CaseError> {
+        match self.length(4) {
+            Some(length) if length <= most => self.part(length),
+            _ => Err(CaseError::Broken),
+        }
     }
-    read_part(input, buf, wide(size[0]))
-}
 
-// A part whose length is four bytes.
-pub fn long_part<R: Read>(input: &mut R, buf: &mut [u8]) -> Part
-    ensures { result.size ≤ length buf.old }
-{
-    let mut size = [0u8; 4];
-    let filled = read_full(input, &mut size);
-    if filled.size < 4 {
-        return broken(true);
+    // A part of just so many bytes, whose length is one byte.
+    pub fn exact<const N: usize>(&mut self) -> Result<[u8; N], CaseError> {
+        let part = self.short()?;
+        <[u8; N]>::try_from(part.as_slice()).map_err(|_| CaseError::Broken)
     }
-    read_part(input, buf, u32_at(&size, 0) as usize)
-}
 
-// A case that is not whole is said, and nothing is read after it.
-pub fn broken_said<W: Write>(out: &mut W) -> io::Result<()> {
-    say(out, b"the input ends in a case, or a length is too large\n")
+    // The number in the next bytes, so many of them, the lowest first; none where the input ends before.
+    fn length(&mut self, width: usize) -> Option<usize>
+        requires { width ≤ 4 }
+    {
+        let mut bytes = [0u8; 4];
+        match read_full(&mut self.input, &mut bytes[..width]) {
+            Ok(size) if size == width => Some(u32::from_le_bytes(bytes) as usize),
+            _ => None,
+        }
+    }
+
+    fn part(&mut self, length: usize) -> Result<Vec<u8>, CaseError> {
+        let mut part = vec![in self.alloc; 0u8; length]?;
+        match read_full(&mut self.input, part.as_mut_slice()) {
+            Ok(size) if size == length => Ok(part),
+            _ => Err(CaseError::Broken),
+        }
+    }
+
+    // Tells the cases, one after the other, until the input ends. A case that is not whole is said, and nothing is read after it.
+    // A proved loop has to end, so the turns are counted, to a number that no run comes to.
+    pub fn tell<W: Write, F: Fn(&mut Cases<R>, &mut W) -> Result<(), CaseError>>(
+        &mut self,
+        out: &mut W,
+        one: F,
+    ) -> io::Result<()>
+        requires { F.IsAlwaysCallable one }
+    {
+        for _ in 0..u64::MAX {
+            match one(self, out) {
+                Ok(()) => {}
+                Err(CaseError::End) => return Ok(()),
+                Err(CaseError::Broken) => {
+                    return writeln!(out, "the input ends in a case, or a length is too large");
+                }
+                Err(CaseError::Failed(error)) => return Err(error),
+            }
+        }
+        Ok(())
+    }
 }

@@ -1,72 +1,66 @@
-// A shard read in pieces, and verdicts compared.
-ghost use Rattle.std.specs.Prelude.{◌<◌, ◌≤◌};
+// A shard read in pieces.
+ghost use Rattle.std.specs.Prelude.{◌<◌, length};
+ghost use Rattle.std.specs.Option.{IfSome};
+ghost use Rattle.std.specs.Iterator.{at_most};
 
 use reader::Reader;
-use rules::{Summary, Totals, Verdict};
+use rules::Verdict;
 use shardline::feed::fed;
-use words::Refusal;
+use std::iter::Cycle;
+use std::slice::Iter;
 
-// Where a piece ends that starts at a position and has so many bytes, at least one.
-pub fn end_of(at: usize, size: usize, length: usize) -> usize
-    requires { at < length }
-    ensures { (at < result) × (result ≤ length) }
-{
-    if size == 0 {
-        at + 1
-    } else if size < length - at {
-        at + size
-    } else {
-        length
+// Some bytes, cut into pieces of these sizes, over and over, each of at least one byte. Where there are no sizes, all the bytes are one piece.
+#[derive(Drop)]
+pub struct Pieces<'a, S> {
+    rest: &'a [u8],
+    sizes: Cycle<Iter<'a, S>>,
+}
+
+impl<'a, S: Copy + Into<usize>> Pieces<'a, S> {
+    pub fn new(bytes: &'a [u8], sizes: &'a [S]) -> Pieces<'a, S> {
+        Pieces {
+            rest: bytes,
+            sizes: sizes.iter().cycle(),
+        }
     }
 }
 
-// The verdict on bytes that are read in pieces of seven sizes, over and over.
-pub fn in_pieces(tag: &[u8], bytes: &[u8], sizes: [usize; 7]) -> Verdict {
-    let mut reader = Reader::new(tag);
-    let mut at = 0;
-    let mut turn = 0;
-    while at < bytes.len() {
-        let end = end_of(at, sizes[turn], bytes.len());
-        reader = fed(reader, &bytes[at..end]);
-        at = end;
-        turn = (turn + 1) % 7;
+impl<'a, S: Copy + Into<usize>> Iterator for Pieces<'a, S> {
+    type Item = &'a [u8];
+
+    ghost remaining = { λ s. at_most (length s.rest.now) };
+
+    fn next(&mut self) -> Option<&'a [u8]> {
+        let most = self.rest.len();
+        if most == 0 {
+            return None;
+        }
+        let size = self.sizes.next().map_or(most, |size| (*size).into());
+        let (piece, rest) = self.rest.split_at(size.clamp(1, most));
+        self.rest = rest;
+        Some(piece)
     }
-    reader.verdict()
+}
+
+// What is left of some bytes of which so many were taken; none where none was taken, or none is left.
+pub fn left_of(bytes: &[u8], taken: usize) -> Option<&[u8]>
+    ensures { IfSome result (λ left. length left.now < length bytes.now) }
+{
+    if 0 < taken && taken < bytes.len() {
+        Some(&bytes[taken..])
+    } else {
+        None
+    }
+}
+
+// The verdict on bytes that are read in pieces of these sizes, over and over.
+pub fn in_pieces(tag: &[u8], bytes: &[u8], sizes: &[usize]) -> Verdict {
+    Pieces::new(bytes, sizes)
+        .fold(Reader::new(tag), fed)
+        .verdict()
 }
 
 // The verdict on bytes that are read in one piece.
 pub fn in_one(tag: &[u8], bytes: &[u8]) -> Verdict {
-    let reader = fed(Reader::new(tag), bytes);
-    reader.verdict()
-}
-
-fn same_refusal(a: Refusal, b: Refusal) -> bool {
-    let p = a.at;
-    let q = b.at;
-    (p.0 == q.0) & (a.number == b.number)
-}
-
-fn same_totals(a: Totals, b: Totals) -> bool {
-    (a.files == b.files)
-        & (a.segments == b.segments)
-        & (a.xorbs == b.xorbs)
-        & (a.chunks == b.chunks)
-        & (a.bytes == b.bytes)
-}
-
-fn same_summary(a: Summary, b: Summary) -> bool {
-    let t = a.totals;
-    let u = b.totals;
-    (a.length == b.length) & (a.footer == b.footer) & same_totals(t, u)
-}
-
-// Whether two verdicts have the same numbers.
-pub fn same_verdict(a: Verdict, b: Verdict) -> bool {
-    let m = a.numbers();
-    let n = b.numbers();
-    let p = m.refusal;
-    let q = n.refusal;
-    let s = m.summary;
-    let t = n.summary;
-    same_refusal(p, q) & same_summary(s, t)
+    fed(Reader::new(tag), bytes).verdict()
 }

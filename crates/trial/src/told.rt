@@ -1,33 +1,39 @@
-// Verdicts as they are told: in one line, with no line end.
-use rules::{Summary, Verdict};
-use std::io;
-use std::io::Write;
-use text::{number, refused, say};
+// Answers as they are told: in one line, with no line end.
+use rules::Summary;
+use std::fmt;
+use words::Refusal;
 
-// A number behind its name.
-pub fn named<W: Write>(out: &mut W, name: &[u8], n: u64) -> io::Result<()> {
-    say(out, name)?;
-    number(out, n)
-}
+// `ok` and what was answered, or the refusal.
+#[derive(Drop)]
+pub struct Told<T>(pub Result<T, Refusal>);
 
-fn accepted<W: Write>(out: &mut W, s: Summary) -> io::Result<()> {
-    let t = s.totals;
-    named(out, b"ok ", s.length)?;
-    named(out, b" files ", t.files)?;
-    named(out, b" segments ", t.segments)?;
-    named(out, b" xorbs ", t.xorbs)?;
-    named(out, b" chunks ", t.chunks)?;
-    named(out, b" bytes ", t.bytes)?;
-    if s.footer {
-        say(out, b" footer yes")
-    } else {
-        say(out, b" footer no")
+impl<T: fmt::Display> fmt::Display for Told<T> {
+    fn fmt<W: fmt::Write>(&self, f: &mut fmt::Formatter<W>) -> fmt::Result {
+        match &self.0 {
+            Ok(answer) => write!(f, "ok {answer}"),
+            Err(refusal) => write!(f, "{refusal}"),
+        }
     }
 }
 
-pub fn verdict_told<W: Write>(out: &mut W, v: Verdict) -> io::Result<()> {
-    match v {
-        Verdict::Accepted(summary) => accepted(out, summary),
-        Verdict::Refused(refusal) => refused(out, refusal),
+// All that is known of an accepted shard.
+#[derive(Drop)]
+pub struct Figures(pub Summary);
+
+impl fmt::Display for Figures {
+    fn fmt<W: fmt::Write>(&self, f: &mut fmt::Formatter<W>) -> fmt::Result {
+        let Figures(summary) = self;
+        let totals = summary.totals;
+        let footer = if summary.footer { "yes" } else { "no" };
+        write!(
+            f,
+            "{} files {} segments {} xorbs {} chunks {} bytes {} footer {footer}",
+            summary.length,
+            totals.files,
+            totals.segments,
+            totals.xorbs,
+            totals.chunks,
+            totals.bytes,
+        )
     }
 }

@@ -99,15 +99,6 @@ part_then n m bs p q = rw (p, q, take-add)
 pub part_in : (at n m : ℕ) (bs : List ℕ) {x y : List ℕ} → x ≡ take n (drop at bs) → y ≡ take m (drop (at + n) bs) → x ++ y ≡ take (n + m) (drop at bs)
 part_in at n m bs p q = rw (p, q, take-add, drop-drop)
 
--- eight bytes are four and four
-eight : {a b c d e f g h a' b' c' d' e' f' g' h' : ℕ} → a ≡ a' → b ≡ b' → c ≡ c' → d ≡ d' → e ≡ e' → f ≡ f' → g ≡ g' → h ≡ h'
-    → a ∷ b ∷ c ∷ d ∷ e ∷ f ∷ g ∷ h ∷ [] ≡ a' ∷ b' ∷ c' ∷ d' ∷ e' ∷ f' ∷ g' ∷ h' ∷ []
-eight p q r s t u v w = rw (p, q, r, s, t, u, v, w)
-
-pub halves : (x : ℕ) → spell 4 (x % 4294967296) ++ spell 4 (x / 4294967296) ≡ spell 8 x
-unfolding spell
-halves x = eight (omega arith) (omega arith) (omega arith) (omega arith) (omega arith) (omega arith) (omega arith) (omega arith)
-
 -- ## Lists of bytes
 
 pub bytes_none : Bytes []

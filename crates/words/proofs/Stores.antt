@@ -1,12 +1,14 @@
 -- Stores into a list, as a writer makes them: one run after the other is one run, and nothing but the bytes stored changes. Assumes nothing.
-use mathlib.Core.Path.{◌≡◌, refl, ◌∙◌}
-use Prim.Native.Nat.{ℕ, zero, suc, ◌+◌, ◌-◌, ◌≤◌, ◌<◌}
-use native.Mathlib.Nat.{not-suc-le-zero, add-zero}
-use native.Mathlib.Numerals.{add-one, sub-one}
+use mathlib.Core.Path.{◌≡◌, refl, sym, ◌∙◌}
+use Prim.Native.Nat.{ℕ, suc, ◌+◌, ◌-◌, ◌≤◌}
+use native.Mathlib.Nat.{add-zero}
+use native.Mathlib.Numerals.{add-one}
 use native.Mathlib.Omega.{arith}
 use mathlib.Core.List.{List, [], ◌∷◌, ◌++◌}
-use lib.ListN.{length, get_or, take, drop, set, length-set, replicate}
-use lib.Seq.{sets, sets-eq, drop-cons}
+use lib.ListN.{length, take, drop, set, length-set}
+use lib.Seq.{sets, sets-eq, drop-drop}
+use Rattle.std.proofs.lemmas.List.{append_assoc}
+use borrow.Rule.Slice.PartMut.{put_mid}
 use Rattle.words.specs.Le.{puts}
 
 pub length_puts : (l : List ℕ) (i : ℕ) (vs : List ℕ) → length (puts l i vs) ≡ length l
@@ -35,25 +37,8 @@ puts_sets l i (a ∷ vs) = rw add-one (puts_sets (set l i a) (suc i) vs)
 pub puts_eq : (vs l : List ℕ) (i : ℕ) → i + length vs ≤ length l → puts l i vs ≡ take i l ++ vs ++ drop (i + length vs) l
 puts_eq vs l i h = puts_sets l i vs ∙ sets-eq vs l i h
 
--- a run of one value, as a loop makes it: one store more, no store left
-pub fill_step : (n : ℕ) (l : List ℕ) (i v : ℕ) → 0 < n → puts l i (replicate n v) ≡ puts (set l i v) (i + 1) (replicate (n - 1) v)
-unfolding puts
-fill_step zero l i v h = absurd (not-suc-le-zero h)
-fill_step (suc n) l i v h = rw sub-one
-
-pub fill_done : (n : ℕ) (l : List ℕ) (i v : ℕ) → n ≤ 0 → puts l i (replicate n v) ≡ l
-unfolding puts
-fill_done zero l i v h = refl
-fill_done (suc n) l i v h = absurd (not-suc-le-zero h)
-
--- a part of another list, in the same way
-pub part_step : (n : ℕ) (l : List ℕ) (i : ℕ) (s : List ℕ) (j : ℕ) → 0 < n → j < length s
-    → puts l i (take n (drop j s)) ≡ puts (set l i (get_or s j 0)) (i + 1) (take (n - 1) (drop (j + 1) s))
-unfolding puts
-part_step zero l i s j h k = absurd (not-suc-le-zero h)
-part_step (suc n) l i s j h k = rw (drop-cons s j 0 k, sub-one, add-one j)
-
-pub part_done : (n : ℕ) (l : List ℕ) (i : ℕ) (s : List ℕ) (j : ℕ) → n ≤ 0 → puts l i (take n (drop j s)) ≡ l
-unfolding puts
-part_done zero l i s j h = refl
-part_done (suc n) l i s j h = absurd (not-suc-le-zero h)
+-- what a part of a list becomes by such a store, as std says it
+pub mid_puts : (l : List ℕ) (at to : ℕ) (mid vs : List ℕ) → mid ≡ vs → to ≡ at + length vs → to ≤ length l → put_mid at (to - at) l mid ≡ puts l at vs
+mid_puts l at to mid vs same end fits =
+    let e : to - at ≡ length vs = omega arith in
+    rw (same, e, drop-drop, ← append_assoc) (sym (puts_eq vs l at (omega arith)))

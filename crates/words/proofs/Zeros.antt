@@ -1,8 +1,8 @@
--- The test for zero bytes, by the count and the place as a loop has them: the tests side by side are one, and bytes that pass it are zeros. Assumes nothing.
+-- The test for zero bytes: it is the test of each byte of the part, and bytes that pass it are zeros. Assumes nothing.
 use mathlib.Core.Path.{◌≡◌, refl, sym, ap, ◌∙◌}
-use Prim.Native.Nat.{ℕ, zero, suc, ◌+◌, ◌-◌, ◌≤◌, ◌<◌}
-use native.Mathlib.Nat.{not-suc-le-zero, add-zero}
-use native.Mathlib.Numerals.{add-one, sub-one}
+use Prim.Native.Nat.{ℕ, zero, suc, ◌+◌, ◌≤◌, ◌<◌}
+use native.Mathlib.Nat.{add-zero}
+use native.Mathlib.Numerals.{add-one}
 use native.Mathlib.Omega.{arith}
 use mathlib.Core.Bool.{Bool, true, false, ◌&&◌}
 use mathlib.Core.List.{List}
@@ -10,6 +10,7 @@ use lib.ListN.{length, get_or, take, drop, replicate, get_or-replicate}
 use lib.Dec.{eqb}
 use lib.Seq.{drop-cons, get_or-take, get_or-drop}
 use borrow.Author.Tests.{eqb-true}
+use Rattle.std.specs.List.{list_all}
 use Rattle.words.specs.Le.{zeros_at}
 
 -- ## Two tests
@@ -33,17 +34,6 @@ and_right false false e = e
 
 -- ## Zeros
 
--- the test for zeros, by the count and the place as a loop has them: one byte more tested, no byte left
-pub zeros_more : (so_far : Bool) (n : ℕ) (s : List ℕ) (i : ℕ) → 0 < n → (so_far && zeros_at n s i) ≡ ((so_far && eqb (get_or s i 0) 0) && zeros_at (n - 1) s (i + 1))
-unfolding zeros_at
-zeros_more so_far zero s i h = absurd (not-suc-le-zero h)
-zeros_more so_far (suc n) s i h = rw sub-one (and_assoc so_far (eqb (get_or s i 0) 0) (zeros_at n s (i + 1)))
-
-pub zeros_none : (so_far : Bool) (n : ℕ) (s : List ℕ) (i : ℕ) → n ≤ 0 → (so_far && zeros_at n s i) ≡ so_far
-unfolding zeros_at
-zeros_none so_far zero s i h = and_true so_far
-zeros_none so_far (suc n) s i h = absurd (not-suc-le-zero h)
-
 -- bytes that pass the test for zeros are zeros
 pub zeros_part : (n : ℕ) (s : List ℕ) (at : ℕ) → at + n ≤ length s → zeros_at n s at ≡ true → take n (drop at s) ≡ replicate n 0
 unfolding zeros_at
@@ -65,3 +55,11 @@ zeros_each (suc n) s at f =
 pub zeros_from : (n : ℕ) (s : List ℕ) (at : ℕ) → take n (drop at s) ≡ replicate n 0 → zeros_at n s at ≡ true
 zeros_from n s at e =
     zeros_each n s at (λ i h. sym (get_or-take n (drop at s) i 0 h ∙ get_or-drop at s i 0) ∙ ap (λ (l : List ℕ). get_or l i 0) e ∙ get_or-replicate n i 0 0 h)
+
+-- all bytes of a part are 0 exactly if the test for zeros says so
+pub zeros_all : (n : ℕ) (s : List ℕ) (at : ℕ) → at + n ≤ length s → list_all (λ b. eqb b 0) (take n (drop at s)) ≡ zeros_at n s at
+unfolding zeros_at
+zeros_all zero s at h = refl
+zeros_all (suc n) s at h =
+    let hl : at < length s = omega arith in
+    rw (drop-cons s at 0 hl, ← add-one, zeros_all n s (at + 1) (omega arith))

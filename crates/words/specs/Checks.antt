@@ -1,5 +1,5 @@
 -- How a list of checks is written: what is answered unless this holds, then the later checks.
-use Rattle.std.specs.Prelude.{Bool, true, false, ℕ}
+use Rattle.std.specs.Prelude.{Bool, true, false, ℕ, eqb, Result, Ok, Err}
 
 infixr 20 ◌unless◌then◌
 module _ {A : Type 0} where
@@ -15,3 +15,7 @@ module _ {A : Type 0} where
 -- no check has failed
 abbrev pub fine : ℕ
 fine = 0
+
+-- what a list of checks lets through: this where no check has failed, else the number of the first that has
+abbrev pub if_fine : {A : Type 0} → ℕ → A → Result A ℕ
+if_fine number x = pick (eqb number fine) (Ok x) (Err number)

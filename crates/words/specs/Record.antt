@@ -1,9 +1,11 @@
 -- Hashes and whole records, as numbers and as bytes.
-use Rattle.std.specs.Prelude.{◌≡◌, ℕ, ◌+◌, ◌^◌, ◌<◌, List, [], ◌∷◌, ◌++◌, Bool, ◌&&◌, length, get_or, replicate, eqb}
+use Rattle.std.specs.Prelude.{◌≡◌, ℕ, ◌+◌, ◌^◌, ◌<◌, List, [], ◌∷◌, ◌++◌, Bool, ◌&&◌, length, get_or, replicate, eqb, Result, Ok, Err}
 use Rattle.words.specs.Le.{le_at, spell, zeros_at}
 use Rattle.words.specs.declared.Words.{Words}
 use Rattle.words.specs.declared.Footer.{Footer}
 use Rattle.words.specs.declared.Tag.{Tag}
+use Rattle.words.specs.declared.NoTag.{NoTag}
+use Rattle.words.specs.Checks.{pick}
 
 -- ## Hashes: four numbers of 64 bits
 
@@ -34,6 +36,10 @@ is_ones h = same_hash h ones
 -- that of 32 bytes
 abbrev pub tag_at : List ℕ → Tag
 tag_at bytes = record { 0 = hash_at bytes 0 }
+
+-- that of any bytes: only 32 are one
+abbrev pub tag_from : List ℕ → Result Tag NoTag
+tag_from bytes = pick (eqb (length bytes) 32) (Ok (tag_at bytes)) (Err (record {}))
 
 -- where there is none
 abbrev pub no_tag : Tag

@@ -1,15 +1,42 @@
-// Positions, tags and refusals, which all of the library has; and numbers, hashes and whole records in lent bytes: read, written and compared, and parts of one slice put into
-// another. An inner crate: a function that takes a position asks that what it reads or writes lies within the slice. What is read and written is said in specs/Le (numbers) and specs/Record (hashes and records).
+// Positions, tags and refusals, which all of the library has; and what stands in lent bytes: numbers, hashes and whole records, read, written and compared, and parts of one slice
+// put into another. An inner crate: a function that takes a position asks that what it reads or writes lies within the slice. What is read and written is said in specs/Le (numbers) and specs/Record (hashes and records).
 #![tactic(auto)]
+
+ghost use Rattle.std.specs.Prelude.{◌≡◌, ℕ, ◌+◌, ◌≤◌, ◌==◌, List, length, codes, Some, Ok, Err, ◌++◌};
+ghost use Rattle.std.specs.Fmt.{decimal};
+ghost use Rattle.words.specs.Le.{puts};
+ghost use Rattle.words.specs.Record.{tag_from};
+ghost use Rattle.words.specs.Refusals.{refusal_text, wrote_numbers};
+
+use std::fmt;
 
 pub mod foot;
 pub mod hash;
 pub mod number;
 pub mod part;
-pub mod record;
+mod record;
+
+// What stands in so many bytes at a position: numbers, hashes, records.
+pub trait Stored: Copy {
+    // How many bytes it has.
+    ghost size: { ℕ };
+
+    // The one that stands in some bytes at a position, and the bytes of one.
+    ghost value_at: { List ℕ → ℕ → Self };
+
+    ghost spelled: { Self → List ℕ };
+
+    fn read(s: &[u8], at: usize) -> Self
+        requires { at + size ≤ length s.now }
+        ensures { result ≡ value_at s.now at };
+
+    fn write(self, buf: &mut [u8], at: usize)
+        requires { at + size ≤ length buf.old }
+        ensures { buf.new ≡ puts buf.old at (spelled self) };
+}
 
 // Every record of 48 bytes: a hash, and the four numbers at 32, 36, 40 and 44.
-#[derive(Clone, Copy)]
+#[derive(Clone, Copy, Debug, PartialEq, Eq)]
 pub struct Words {
     pub hash: [u64; 4],
     pub a: u32,
@@ -19,7 +46,7 @@ pub struct Words {
 }
 
 // The numbers of a footer: its version, its three offsets, the 48 bytes at 72 (key, created, expiry), and whether all its reserved bytes are 0.
-#[derive(Clone, Copy)]
+#[derive(Clone, Copy, Debug, PartialEq, Eq)]
 pub struct Footer {
     pub version: u64,
     pub files: u64,
@@ -34,7 +61,7 @@ impl Words {
     pub const SIZE: usize = 48;
     // 32 bytes 0xFF, then 16 bytes 0.
     pub const BOOKEND: Words = Words {
-        hash: [18446744073709551615; 4],
+        hash: [u64::MAX; 4],
         a: 0,
         b: 0,
         c: 0,
@@ -47,11 +74,11 @@ impl Footer {
 }
 
 // Where a byte is, counted from the start of what was read or is written.
-#[derive(Clone, Copy)]
+#[derive(Clone, Copy, Debug, PartialEq, Eq)]
 pub struct Position(pub u64);
 
 // The tag of a shard, as four numbers.
-#[derive(Clone, Copy)]
+#[derive(Clone, Copy, Debug, PartialEq, Eq)]
 pub struct Tag(pub [u64; 4]);
 
 impl Tag {
@@ -59,11 +86,66 @@ impl Tag {
     pub const NONE: Tag = Tag([0; 4]);
 }
 
+// Bytes that are no tag: there are not 32 of them.
+#[derive(Clone, Copy, Debug, PartialEq, Eq)]
+pub struct NoTag;
+
+impl TryFrom<&[u8]> for Tag {
+    type Error = NoTag;
+
+    ghost try_from_gives = { λ bytes r. r ≡ tag_from bytes.now };
+
+    fn try_from(bytes: &[u8]) -> Result<Tag, NoTag> {
+        if bytes.len() == 32 {
+            Ok(Tag(<[u64; 4]>::read(bytes, 0)))
+        } else {
+            Err(NoTag)
+        }
+    }
+}
+
 // Why bytes, or what was asked, are refused, and where.
-#[derive(Clone, Copy)]
+#[derive(Clone, Copy, Debug, PartialEq, Eq)]
 pub struct Refusal {
     pub at: Position,
     pub number: u32,
+}
+
+// As `refused 3 at 0`, with no line end.
+impl fmt::Display for Refusal {
+    ghost output = { λ r. Some (refusal_text r) };
+
+    fn fmt<W: fmt::Write>(&self, f: &mut fmt::Formatter<W>) -> fmt::Result {
+        write!(f, "refused {} at {}", self.number, self.at.0)
+    }
+}
+
+// The paper's numbers for what was written: so many bytes, or 0 and the refusal.
+#[repr(C)]
+#[derive(Clone, Copy, Debug, PartialEq, Eq)]
+pub struct WroteNumbers {
+    pub wrote: u64,
+    pub at: u64,
+    pub number: u32,
+}
+
+impl From<Result<usize, Refusal>> for WroteNumbers {
+    ghost from_gives = { λ answer n. n ≡ wrote_numbers answer };
+
+    fn from(answer: Result<usize, Refusal>) -> WroteNumbers {
+        match answer {
+            Ok(size) => WroteNumbers {
+                wrote: size as u64,
+                at: 0,
+                number: 0,
+            },
+            Err(refusal) => WroteNumbers {
+                wrote: 0,
+                at: refusal.at.0,
+                number: refusal.number,
+            },
+        }
+    }
 }
 
 impl Refusal {

@@ -1,19 +1,10 @@
-// A part of one slice, copied into another.
-ghost use Rattle.std.specs.Prelude.{◌≡◌, ◌+◌, ◌≤◌, length, take, drop};
+// A part of a slice, stored at a position.
+ghost use Rattle.std.specs.Prelude.{◌≡◌, ◌+◌, ◌≤◌, length};
 ghost use Rattle.words.specs.Le.{puts};
 
-// So many bytes of a slice, from a position on.
-pub fn put_part(buf: &mut [u8], at: usize, s: &[u8], from: usize, n: usize)
-    requires { (at + n ≤ length buf.old) × (from + n ≤ length s.now) }
-    ensures { buf.new ≡ puts buf.old at (take n (drop from s.now)) }
+pub fn put_part(buf: &mut [u8], at: usize, part: &[u8])
+    requires { at + length part.now ≤ length buf.old }
+    ensures { buf.new ≡ puts buf.old at part.now }
 {
-    let mut i = at;
-    let mut j = from;
-    let mut left = n;
-    while 0 < left {
-        buf[i] = s[j];
-        i += 1;
-        j += 1;
-        left -= 1;
-    }
+    buf[at..at + part.len()].copy_from_slice(part);
 }

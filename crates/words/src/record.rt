@@ -1,38 +1,36 @@
 // A record of 48 bytes, as numbers.
-ghost use Rattle.std.specs.Prelude.{◌≡◌, ◌+◌, ◌≤◌, length};
-ghost use Rattle.words.specs.Le.{puts};
+ghost use Rattle.std.specs.Prelude.{◌≡◌};
 ghost use Rattle.words.specs.Record.{words_at, spell_words, tail_zero};
 
-use crate::Words;
-use crate::hash::{hash_at, put_hash};
-use crate::number::{put_u32, u32_at};
+use crate::{Stored, Words};
 
-impl Words {
-    pub fn read(s: &[u8], at: usize) -> Words
-        requires { at + 48 ≤ length s.now }
-        ensures { result ≡ words_at s.now at }
-    {
+impl Stored for Words {
+    ghost size = { 48 };
+
+    ghost value_at = { words_at };
+
+    ghost spelled = { spell_words };
+
+    fn read(s: &[u8], at: usize) -> Words {
         Words {
-            hash: hash_at(s, at),
-            a: u32_at(s, at + 32),
-            b: u32_at(s, at + 36),
-            c: u32_at(s, at + 40),
-            d: u32_at(s, at + 44),
+            hash: <[u64; 4]>::read(s, at),
+            a: u32::read(s, at + 32),
+            b: u32::read(s, at + 36),
+            c: u32::read(s, at + 40),
+            d: u32::read(s, at + 44),
         }
     }
 
-    pub fn write(self, buf: &mut [u8], at: usize)
-        requires { at + 48 ≤ length buf.old }
-        ensures { buf.new ≡ puts buf.old at (spell_words self) }
-    {
-        let h = self.hash;
-        put_hash(buf, at, h);
-        put_u32(buf, at + 32, self.a);
-        put_u32(buf, at + 36, self.b);
-        put_u32(buf, at + 40, self.c);
-        put_u32(buf, at + 44, self.d);
+    fn write(self, buf: &mut [u8], at: usize) {
+        self.hash.write(buf, at);
+        self.a.write(buf, at + 32);
+        self.b.write(buf, at + 36);
+        self.c.write(buf, at + 40);
+        self.d.write(buf, at + 44);
     }
+}
 
+impl Words {
     // Whether the sixteen bytes behind the hash are 0.
     pub fn tail_zero(self) -> bool
         ensures { result ≡ tail_zero self }

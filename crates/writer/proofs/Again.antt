@@ -1,12 +1,13 @@
 -- A good record that is offered again is taken again, with the same words, because what the reader's checks leave open is just what is offered:
 -- the tag, the version and the reserved bytes are forced. Assumes nothing.
+use Rattle.std.specs.Prelude.{Ok}
 use mathlib.Core.Path.{◌≡◌, refl, sym, ap, ◌∙◌}
 use mathlib.Core.Bool.{Bool, true, false, ◌&&◌, not}
-use mathlib.Core.List.{List, [], ◌∷◌}
+use mathlib.Core.List.{List}
 use Prim.Native.Nat.{ℕ, ◌<◌, ◌≤◌}
 use native.Mathlib.Omega.{arith}
 use lib.Dec.{eqb, lit<}
-use borrow.Author.Tests.{eqb-true, eq-eqb, le-leb}
+use borrow.Author.Tests.{eqb-true}
 use Rattle.words.specs.Checks.{pick}
 use Rattle.words.specs.Le.{long}
 use Rattle.words.specs.Record.{IsHash, same_hash, ones, is_ones, Whole, tail_zero}
@@ -17,7 +18,7 @@ use Rattle.words.proofs.Records.{hash_same, true_ones, words_same}
 use Rattle.words.proofs.Checks.{passed}
 use Rattle.rules.specs.Rules.{size_by, size_of, fault_by, fault_of, file_head_fault, xorb_head_fault, bookend_fault, no_other_bit, kind_of, record_of}
 use Rattle.rules.specs.Rules as rules
-use Rattle.rules.specs.Kinds.{among, is_due}
+use Rattle.rules.specs.Kinds.{is_due}
 use Rattle.rules.specs.declared.Place.{Place}
 use Rattle.rules.specs.declared.Kind.{Kind}
 use Rattle.rules.specs.declared.Kind.TheVariants as kind
@@ -28,63 +29,20 @@ use Rattle.writer.specs.declared.Offer.{Offer}
 use Rattle.layout.proofs.Checks.{tail_zero_lem}
 use Rattle.writer.specs.Write.{is_head, is_footer, bytes_of, answer_of}
 use Rattle.writer.specs.declared.Writer.{Writer}
-use Rattle.writer.specs.declared.Answer.TheVariants as answer
 use Rattle.writer.proofs.Made.{size_kind, due_size}
 use Rattle.writer.proofs.Spelled.{bytes_at, bytes_due, GoodWords}
 
 -- ## The kind of a good record is due
 
 kind_back : (k : Kind) (w : Words) → kind_by (fields_by k w) ≡ k
-kind_back kind.Header w = refl
-kind_back kind.FileHead w = refl
-kind_back kind.Segment w = refl
-kind_back kind.Verification w = refl
-kind_back kind.Metadata w = refl
-kind_back kind.XorbHead w = refl
-kind_back kind.Chunk w = refl
-kind_back kind.Bookend w = refl
-kind_back kind.Footer w = refl
+kind_back k w = grind arith
 
 kind_due : (d : Due) (w : Words) → 0 < size_by d → is_due d (rules.kind_by d w) ≡ true
-kind_due due.Header w l = refl
-kind_due due.FileHead w l = go (is_ones w.hash)
-  where
-    go : (t : Bool) → among (pick t kind.Bookend kind.FileHead) (kind.FileHead ∷ kind.Bookend ∷ []) ≡ true
-    go true = refl
-    go false = refl
-kind_due (due.Segment left) w l = refl
-kind_due (due.Verification left) w l = refl
-kind_due due.Metadata w l = refl
-kind_due due.XorbHead w l = go (is_ones w.hash)
-  where
-    go : (t : Bool) → among (pick t kind.Bookend kind.XorbHead) (kind.XorbHead ∷ kind.Bookend ∷ []) ≡ true
-    go true = refl
-    go false = refl
-kind_due (due.Chunk left sum total) w l = refl
-kind_due due.Footer w l = refl
-kind_due due.End w l = absurd (omega arith)
-kind_due (due.Refused n) w l = absurd (omega arith)
+kind_due d w l = grind arith
 
 -- and it is no head with the hash of all ones
 kind_ones : (d : Due) (w : Words) → not (is_head (rules.kind_by d w) && is_ones w.hash) ≡ true
-kind_ones due.Header w = refl
-kind_ones due.FileHead w = go (is_ones w.hash)
-  where
-    go : (t : Bool) → not (is_head (pick t kind.Bookend kind.FileHead) && t) ≡ true
-    go true = refl
-    go false = refl
-kind_ones (due.Segment left) w = refl
-kind_ones (due.Verification left) w = refl
-kind_ones due.Metadata w = refl
-kind_ones due.XorbHead w = go (is_ones w.hash)
-  where
-    go : (t : Bool) → not (is_head (pick t kind.Bookend kind.XorbHead) && t) ≡ true
-    go true = refl
-    go false = refl
-kind_ones (due.Chunk left sum total) w = refl
-kind_ones due.Footer w = refl
-kind_ones due.End w = refl
-kind_ones (due.Refused n) w = refl
+kind_ones d w = grind arith
 
 -- ## Its words are made again
 
@@ -133,9 +91,9 @@ words_by_lem (due.Refused n) tag p w t h l z = absurd (omega arith)
 -- ## One record offered again
 
 answers : (w : Writer) (o : Offer) (room : ℕ) → is_due w.place.due (kind_offered o) ≡ true → not (is_head (kind_offered o) && is_ones o.hash) ≡ true
-    → fault_of w.tag w.place (words_of w.tag o) ≡ 0 → size_of w.place ≤ room → answer_of w o room ≡ answer.Wrote (size_of w.place)
+    → fault_of w.tag w.place (words_of w.tag o) ≡ 0 → size_of w.place ≤ room → answer_of w o room ≡ Ok (size_of w.place)
 unfolding answer_of
-answers w o room a b c l = rw (a, b, eq-eqb _ 0 c, le-leb (size_of w.place) room l)
+answers w o room a b c l = grind arith
 
 module _ (w : Writer) (ws : Words) (tag_is : IsHash w.tag.0) (good : GoodWords w.tag w.place ws) where
   abbrev again : Offer
@@ -158,7 +116,7 @@ module _ (w : Writer) (ws : Words) (tag_is : IsHash w.tag.0) (good : GoodWords w
   again_words = words_by_lem w.place.due w.tag w.place ws tag_is good.whole good.due good.fault
 
   -- it is taken wherever there is room for it
-  pub again_taken : (room : ℕ) → pick (is_footer (record_of w.place ws).kind) 200 48 ≤ room → answer_of w again room ≡ answer.Wrote (size_of w.place)
+  pub again_taken : (room : ℕ) → pick (is_footer (record_of w.place ws).kind) 200 48 ≤ room → answer_of w again room ≡ Ok (size_of w.place)
   unfolding record_of
   again_taken room l =
       let s : size_kind (kind_of w.place ws) ≡ size_of w.place = ap size_kind (sym again_kind) ∙ due_size w.place.due (kind_offered again) again_due in

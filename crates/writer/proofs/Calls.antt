@@ -1,5 +1,6 @@
 -- One call, and calls one after the other: a record taken has passed every check and stands at the start of the buffer, where there is room for it,
 -- because what is due is as long as the kind offered. Assumes nothing.
+use Rattle.std.specs.Prelude.{Result, Ok, Err}
 use mathlib.Core.Path.{◌≡◌, refl, sym, ap, ◌∙◌}
 use mathlib.Core.Logic.{◌≢◌}
 use mathlib.Core.Bool.{Bool, true, false, ◌&&◌, not}
@@ -12,7 +13,7 @@ use lib.Dec.{eqb, leb}
 use borrow.Author.Tests.{eqb-true, eqb-false, eq-eqb, ne_eqb, leb-true}
 use Rattle.words.specs.Checks.{pick}
 use Rattle.words.specs.Le.{puts}
-use Rattle.words.specs.Record.{tag_at, no_tag, is_ones, spell_words, spell_footer}
+use Rattle.words.specs.Record.{tag_at, no_tag, is_ones}
 use Rattle.words.proofs.Stores.{puts_eq}
 use Rattle.words.proofs.Records.{length_words, length_footer}
 use Rattle.rules.specs.Rules.{size_of, record_of, start}
@@ -27,8 +28,6 @@ use Rattle.writer.specs.declared.Offer.{Offer}
 use Rattle.writer.specs.Write.{is_head, is_footer, refuses, checked, bytes_of, answer_of, next_by, buffer_by, written_of, buffer_of, fresh}
 use Rattle.writer.specs.Writings.{Call, Writing, once, written}
 use Rattle.writer.specs.declared.Writer.{Writer}
-use Rattle.writer.specs.declared.Answer.{Answer}
-use Rattle.writer.specs.declared.Answer.TheVariants as answer
 use Rattle.writer.proofs.Made.{size_kind, due_size}
 
 -- ## What a record taken has passed
@@ -40,10 +39,10 @@ pub record Passed (w : Writer) (o : Offer) (room n : ℕ) : Type 0 where
   pub fits : size_of w.place ≤ room
   pub size : size_of w.place ≡ n
 
-not_refused : (w : Writer) (k n : ℕ) → refuses w k ≡ answer.Wrote n → ⊥
-not_refused w k n e = absurd (let z : ◌≡◌ {A = ℕ} 0 1 = cc in omega arith)
+not_refused : (w : Writer) (k n : ℕ) → refuses w k ≡ Ok n → ⊥
+not_refused w k n e = grind arith
 
-pub taken_passed : (w : Writer) (o : Offer) (room n : ℕ) → answer_of w o room ≡ answer.Wrote n → Passed w o room n
+pub taken_passed : (w : Writer) (o : Offer) (room n : ℕ) → answer_of w o room ≡ Ok n → Passed w o room n
 unfolding answer_of
 taken_passed w o room n e =
     let (e1, z1) = passed_on (is_due w.place.due (kind_offered o)) _ _ _ (not_refused w _ n) e in
@@ -56,29 +55,25 @@ taken_passed w o room n e =
 
 length_bytes : (w : Writer) (o : Offer) → length (bytes_of w o) ≡ size_kind (kind_offered o)
 unfolding bytes_of
-length_bytes w o = go (is_footer (kind_offered o))
-  where
-    go : (b : Bool) → length (pick b (spell_footer w.place.offset.0 w.place.at.0 (words_of w.tag o)) (spell_words (words_of w.tag o))) ≡ pick b 200 48
-    go true = length_footer w.place.offset.0 w.place.at.0 (words_of w.tag o)
-    go false = length_words (words_of w.tag o)
+length_bytes w o = grind (arith, length_footer, length_words)
 
-pub room_for : (w : Writer) (o : Offer) (room n : ℕ) → answer_of w o room ≡ answer.Wrote n → (pick (is_footer (kind_offered o)) 200 48 ≤ room) × (pick (is_footer (kind_offered o)) 200 48 ≡ n)
+pub room_for : (w : Writer) (o : Offer) (room n : ℕ) → answer_of w o room ≡ Ok n → (pick (is_footer (kind_offered o)) 200 48 ≤ room) × (pick (is_footer (kind_offered o)) 200 48 ≡ n)
 room_for w o room n e =
     let ok = taken_passed w o room n e in
     let s : size_kind (kind_offered o) ≡ size_of w.place = due_size w.place.due (kind_offered o) ok.due in
     (omega arith, s ∙ ok.size)
 
 -- stores at the start are the record's bytes, and then the buffer as it was
-pub put_start : (w : Writer) (o : Offer) (buffer : List ℕ) (n : ℕ) → answer_of w o (length buffer) ≡ answer.Wrote n → puts buffer 0 (bytes_of w o) ≡ buffer_of w o buffer
+pub put_start : (w : Writer) (o : Offer) (buffer : List ℕ) (n : ℕ) → answer_of w o (length buffer) ≡ Ok n → puts buffer 0 (bytes_of w o) ≡ buffer_of w o buffer
 unfolding buffer_of
 put_start w o buffer n e =
     let (r, s) = room_for w o (length buffer) n e in
     let l : 0 + length (bytes_of w o) ≡ n = omega (arith, length_bytes w o) in
-    puts_eq (bytes_of w o) buffer 0 (omega arith) ∙ ap (λ (k : ℕ). bytes_of w o ++ drop k buffer) l ∙ ap (λ (a : Answer). buffer_by a w o buffer) (sym e)
+    puts_eq (bytes_of w o) buffer 0 (omega arith) ∙ ap (λ (k : ℕ). bytes_of w o ++ drop k buffer) l ∙ ap (λ (a : Result ℕ Refusal). buffer_by a w o buffer) (sym e)
 
-pub put_kept : (w : Writer) (o : Offer) (buffer : List ℕ) (refusal : Refusal) → answer_of w o (length buffer) ≡ answer.Refused refusal → buffer ≡ buffer_of w o buffer
+pub put_kept : (w : Writer) (o : Offer) (buffer : List ℕ) (refusal : Refusal) → answer_of w o (length buffer) ≡ Err refusal → buffer ≡ buffer_of w o buffer
 unfolding buffer_of
-put_kept w o buffer refusal e = ap (λ (a : Answer). buffer_by a w o buffer) (sym e)
+put_kept w o buffer refusal e = ap (λ (a : Result ℕ Refusal). buffer_by a w o buffer) (sym e)
 
 -- ## What a call adds
 
@@ -86,9 +81,9 @@ put_kept w o buffer refusal e = ap (λ (a : Answer). buffer_by a w o buffer) (sy
 abbrev pub unmoved : Writer → Writing
 unmoved w = record { writer = w; bytes = []; records = [] }
 
-pub wrote_once : (w : Writer) (c : Call) (n : ℕ) → answer_of w c.offer (length c.buffer) ≡ answer.Wrote n
+pub wrote_once : (w : Writer) (c : Call) (n : ℕ) → answer_of w c.offer (length c.buffer) ≡ Ok n
     → once w c ≡ record {
-      writer = next_by (answer.Wrote n) w (words_of w.tag c.offer);
+      writer = next_by (Ok n) w (words_of w.tag c.offer);
       bytes = bytes_of w c.offer;
       records = record_of w.place (words_of w.tag c.offer) ∷ [];
     }
@@ -97,7 +92,7 @@ wrote_once w c n e =
     let s : length (bytes_of w c.offer) ≡ n = length_bytes w c.offer ∙ (room_for w c.offer (length c.buffer) n e).1 in
     rw (e, ← s, take-append_seam)
 
-pub refused_once : (w : Writer) (c : Call) (refusal : Refusal) → answer_of w c.offer (length c.buffer) ≡ answer.Refused refusal → once w c ≡ unmoved w
+pub refused_once : (w : Writer) (c : Call) (refusal : Refusal) → answer_of w c.offer (length c.buffer) ≡ Err refusal → once w c ≡ unmoved w
 unfolding once written_of
 refused_once w c refusal e = rw e
 

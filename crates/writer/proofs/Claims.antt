@@ -1,5 +1,7 @@
 -- The smaller claims hold by the definitions of a call and by the kind that a record taken has; and no number wraps because a writer stands only
 -- at places that reading gives. Assumes nothing.
+use Rattle.std.specs.Prelude.{Result, Ok, Err}
+use Rattle.words.specs.declared.Refusal.{Refusal}
 use mathlib.Core.Path.{◌≡◌, refl, sym, ap, ◌∙◌}
 use mathlib.Core.List.{List}
 use Prim.Native.Nat.{ℕ}
@@ -15,22 +17,20 @@ use Rattle.writer.specs.Write.{answer_of, bytes_of, written_of, buffer_of, next_
 use Rattle.writer.specs.Writings.{Writing, written, RefusedChangesNothing, KeepsLength, NeverWraps, OffersBack}
 use Rattle.writer.specs.declared.Offer.{Offer}
 use Rattle.writer.specs.declared.Fields.{Fields}
-use Rattle.writer.specs.declared.Answer.{Answer}
-use Rattle.writer.specs.declared.Answer.TheVariants as answer
 use Rattle.writer.proofs.Made.{made_kind, fields_back, hash_back}
 use Rattle.writer.proofs.Calls.{taken_passed, put_start, put_kept, by_tag}
 use Rattle.writer.proofs.ReadAfterWrite.{written_good, written_bad}
 
 pub refused_changes_nothing : RefusedChangesNothing
 unfolding written_of
-refused_changes_nothing w o buffer refusal e = (ap (λ (a : Answer). next_by a w (words_of w.tag o)) e, sym (put_kept w o buffer refusal e))
+refused_changes_nothing w o buffer refusal e = (ap (λ (a : Result ℕ Refusal). next_by a w (words_of w.tag o)) e, sym (put_kept w o buffer refusal e))
 
 pub keeps_length : KeepsLength
 keeps_length w o buffer = go (answer_of w o (length buffer)) refl
   where
-    go : (a : Answer) → answer_of w o (length buffer) ≡ a → length (buffer_of w o buffer) ≡ length buffer
-    go (answer.Wrote n) e = ap length (sym (put_start w o buffer n e)) ∙ length_puts buffer 0 (bytes_of w o)
-    go (answer.Refused refusal) e = ap length (sym (put_kept w o buffer refusal e))
+    go : (a : Result ℕ Refusal) → answer_of w o (length buffer) ≡ a → length (buffer_of w o buffer) ≡ length buffer
+    go (Ok n) e = ap length (sym (put_start w o buffer n e)) ∙ length_puts buffer 0 (bytes_of w o)
+    go (Err refusal) e = ap length (sym (put_kept w o buffer refusal e))
 
 pub never_wraps : (tag : List ℕ) → Bytes tag → NeverWraps tag
 unfolding held

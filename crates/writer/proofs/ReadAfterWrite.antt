@@ -1,13 +1,13 @@
 -- READ AFTER WRITE holds because each record taken has passed the reader's own checks, so that its bytes are read as that record and lead the reader
 -- to the place where the writer stands; a refusal adds no byte and moves nobody. Assumes nothing.
+use Rattle.std.specs.Prelude.{Result, Ok, Err}
+use Rattle.words.specs.declared.Refusal.{Refusal}
 use mathlib.Core.Path.{◌≡◌, refl, sym, ap, ◌∙◌}
 use mathlib.Core.Logic.{◌≢◌}
-use mathlib.Core.Bool.{Bool, true, false}
 use mathlib.Core.List.{List, [], ◌∷◌}
-use Prim.Native.Nat.{ℕ, ◌<◌}
+use Prim.Native.Nat.{ℕ}
 use native.Mathlib.Omega.{arith}
 use lib.ListN.{length}
-use Rattle.words.specs.Checks.{pick}
 use Rattle.words.specs.Le.{Bytes}
 use Rattle.words.specs.Record.{IsHash, tag_at, no_tag}
 use Rattle.words.specs.declared.Words.{Words}
@@ -24,11 +24,9 @@ use Rattle.layout.specs.Scan.{format, found_of, found_in}
 use Rattle.layout.specs.Reach.{Reached}
 use Rattle.layout.proofs.Reach.{reached_start, reached_next, exact}
 use Rattle.layout.proofs.Refusals.{scan_starts, bad_tag}
-use Rattle.writer.specs.Write.{is_footer, answer_of, next_by, fresh, verdict_of}
+use Rattle.writer.specs.Write.{answer_of, next_by, fresh, verdict_of}
 use Rattle.writer.specs.Writings.{Call, Writing, written, InRanges, ReadAfterWrite}
 use Rattle.writer.specs.declared.Writer.{Writer}
-use Rattle.writer.specs.declared.Answer.{Answer}
-use Rattle.writer.specs.declared.Answer.TheVariants as answer
 use Rattle.writer.proofs.Made.{due_size, whole_of}
 use Rattle.writer.proofs.Calls.{Passed, taken_passed, wrote_once, refused_once, unmoved, written_nil, written_cons, by_tag, stands, fresh_good, fresh_bad}
 use Rattle.writer.proofs.Spelled.{bytes_due, GoodWords, reads_good}
@@ -37,11 +35,7 @@ use Rattle.writer.proofs.Spelled.{bytes_due, GoodWords, reads_good}
 
 -- its words are good
 good_due : (w : Writer) (o : Offer) (room n : ℕ) → IsHash w.tag.0 → InRange o → Passed w o room n → GoodWords w.tag w.place (words_of w.tag o)
-good_due w o room n t i ok = record { due = go (is_footer (kind_offered o)) (due_size w.place.due (kind_offered o) ok.due); whole = whole_of w.tag o t i; fault = ok.checks }
-  where
-    go : (b : Bool) {n : ℕ} → pick b 200 48 ≡ n → 0 < n
-    go true e = omega arith
-    go false e = omega arith
+good_due w o room n t i ok = let s = due_size w.place.due (kind_offered o) ok.due in record { due = grind arith; whole = whole_of w.tag o t i; fault = ok.checks }
 
 -- ## Any calls
 
@@ -54,16 +48,16 @@ reads_cons : (w : Writer) (c : Call) (cs : List Call) → IsHash w.tag.0 → Rea
     → ((v : Writer) → IsHash v.tag.0 → Reached v.place → ReadsBack v (written v cs)) → ReadsBack w (written w (c ∷ cs))
 reads_cons w c cs t r i later = go (answer_of w c.offer (length c.buffer)) refl
   where
-    go : (a : Answer) → answer_of w c.offer (length c.buffer) ≡ a → ReadsBack w (written w (c ∷ cs))
-    go (answer.Refused refusal) e = rw (written_cons, refused_once w c refusal e) (later w t r)
-    go (answer.Wrote n) e =
+    go : (a : Result ℕ Refusal) → answer_of w c.offer (length c.buffer) ≡ a → ReadsBack w (written w (c ∷ cs))
+    go (Err refusal) e = rw (written_cons, refused_once w c refusal e) (later w t r)
+    go (Ok n) e =
         let ws : Words = words_of w.tag c.offer in
         let ok = taken_passed w c.offer (length c.buffer) n e in
         let g = good_due w c.offer (length c.buffer) n t i ok in
         let q : Place = next_of w.place ws in
         let h : Reached q = reached_next w.tag w.place ws g.whole r g.fault in
         let v : Writer = stands w.tag q in
-        let same : next_by (answer.Wrote n) w ws ≡ v = ap (stands w.tag) (exact q h) in
+        let same : next_by (Ok n) w ws ≡ v = ap (stands w.tag) (exact q h) in
         let b : ReadsBack v (written v cs) = later v t h in
         rw (written_cons, wrote_once w c n e, same, bytes_due w c.offer ok.due)
         (record { reads = reads_good w.tag w.place ws (written v cs).bytes r g ∙ rw b.reads; reached = b.reached })
@@ -75,7 +69,7 @@ reads_back (c ∷ cs) w t r (i, e) = reads_cons w c cs t r i (λ v u q. reads_ba
 -- ## From the beginning
 
 -- a writer that was refused says the same to everything
-refused_says : (w : Writer) (o : Offer) (room n : ℕ) → w.place.due ≡ due.Refused n → answer_of w o room ≡ answer.Refused (refusal_at n w.place)
+refused_says : (w : Writer) (o : Offer) (room n : ℕ) → w.place.due ≡ due.Refused n → answer_of w o room ≡ Err (refusal_at n w.place)
 unfolding answer_of
 refused_says w o room n d = rw d
 

@@ -14,7 +14,7 @@ use Rattle.rules.specs.Rules.{size_of, record_of, start}
 use Rattle.rules.specs.Verdicts.{verdict_by, verdict_at}
 use Rattle.rules.specs.declared.Place.{Place}
 use Rattle.rules.specs.declared.Record.{Record}
-use Rattle.rules.specs.declared.Verdict.{Verdict}
+use Rattle.rules.specs.Verdicts.{Verdict}
 use Rattle.rules.specs.declared.Due.{Due}
 use Rattle.writer.specs.Offers.{offer_of}
 use Rattle.writer.specs.declared.Offer.{Offer}

@@ -1,23 +1,20 @@
 -- ONE CALL OF THE WRITER: the answer, the next writer, and each byte of the lent buffer; for every writer, every offer and every buffer.
-use Rattle.std.specs.Prelude.{ℕ, List, ◌++◌, Bool, ◌&&◌, ◌||◌, not, eqb, leb, length, drop}
+use Rattle.std.specs.Prelude.{ℕ, List, ◌++◌, Bool, ◌&&◌, ◌||◌, not, eqb, leb, length, drop, Result, Ok, Err}
 use Rattle.words.specs.Checks.{pick, ◌unless◌then◌}
 use Rattle.words.specs.Record.{is_ones, tag_at, no_tag, spell_words, spell_footer}
-use Rattle.words.specs.Refusals.{no_refusal}
 use Rattle.words.specs.declared.Words.{Words}
 use Rattle.words.specs.declared.Refusal.{Refusal}
 use Rattle.rules.specs.Rules.{size_of, fault_of, next_of, start}
 use Rattle.rules.specs.Held.{held}
 use Rattle.rules.specs.Verdicts.{refused, refusal_at, verdict_at}
 use Rattle.rules.specs.Kinds.{same_kind, is_due, not_due}
-use Rattle.rules.specs.declared.Verdict.{Verdict}
+use Rattle.rules.specs.Verdicts.{Verdict}
 use Rattle.rules.specs.declared.Kind.{Kind}
 use Rattle.rules.specs.declared.Kind.TheVariants as kind
 use Rattle.writer.specs.Offers.{kind_offered, words_of}
 use Rattle.writer.specs.declared.Offer.{Offer}
 use Rattle.writer.specs.declared.Writer.{Writer}
 use Rattle.writer.specs.declared.Written.{Written}
-use Rattle.writer.specs.declared.Answer.{Answer}
-use Rattle.writer.specs.declared.Answer.TheVariants as answer
 
 -- ## The record's bytes
 
@@ -34,14 +31,14 @@ bytes_of w o = pick (is_footer (kind_offered o)) (spell_footer w.place.offset.0 
 -- ## The answer
 
 -- a refusal has the position where the writer stands, which is where the record would start
-abbrev pub refuses : Writer → ℕ → Answer
-refuses w number = answer.Refused (refusal_at number w.place)
+abbrev pub refuses : Writer → ℕ → Result ℕ Refusal
+refuses w number = Err (refusal_at number w.place)
 
 -- the reader's checks for that record: the number of the first that fails, 0 for none
 abbrev pub checked : Writer → Offer → ℕ
 checked w o = fault_of w.tag w.place (words_of w.tag o)
 
-unfoldable pub answer_of : Writer → Offer → ℕ → Answer
+unfoldable pub answer_of : Writer → Offer → ℕ → Result ℕ Refusal
 answer_of w o room =
     -- this kind of record is due now
     refuses w (not_due w.place.due) unless is_due w.place.due (kind_offered o) then
@@ -50,30 +47,21 @@ answer_of w o room =
     -- the reader's checks
     refuses w (checked w o) unless eqb (checked w o) 0 then
     -- the buffer is not shorter than the record
-    refuses w 15 unless leb (size_of w.place) room then answer.Wrote (size_of w.place)
-
--- the paper's numbers for each case: the bytes written, and the refusal
-abbrev pub wrote_by : Answer → ℕ
-wrote_by (answer.Wrote size) = size
-wrote_by (answer.Refused refusal) = 0
-
-abbrev pub refusal_by : Answer → Refusal
-refusal_by (answer.Wrote size) = no_refusal
-refusal_by (answer.Refused refusal) = refusal
+    refuses w 15 unless leb (size_of w.place) room then Ok (size_of w.place)
 
 -- ## What a call changes
 
 -- a record that was written moves the writer on; a refusal changes nothing
-abbrev pub next_by : Answer → Writer → Words → Writer
-next_by (answer.Wrote size) w words = record { tag = w.tag; place = held (next_of w.place words) }
-next_by (answer.Refused refusal) w words = w
+abbrev pub next_by : Result ℕ Refusal → Writer → Words → Writer
+next_by (Ok size) w words = record { tag = w.tag; place = held (next_of w.place words) }
+next_by (Err refusal) w words = w
 
 -- the record stands at the start of the buffer, and no other byte changes; a refusal changes none
-abbrev pub buffer_by : Answer → Writer → Offer → List ℕ → List ℕ
-buffer_by (answer.Wrote size) w o buffer = bytes_of w o ++ drop size buffer
-buffer_by (answer.Refused refusal) w o buffer = buffer
+abbrev pub buffer_by : Result ℕ Refusal → Writer → Offer → List ℕ → List ℕ
+buffer_by (Ok size) w o buffer = bytes_of w o ++ drop size buffer
+buffer_by (Err refusal) w o buffer = buffer
 
-abbrev pub written_by : Answer → Writer → Words → Written
+abbrev pub written_by : Result ℕ Refusal → Writer → Words → Written
 written_by a w words = record { writer = next_by a w words; answer = a }
 
 -- what a call answers, from the length of the buffer

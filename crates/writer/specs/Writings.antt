@@ -1,5 +1,5 @@
 -- CALLS ONE AFTER THE OTHER, and the claims about them: refusals change nothing, and both round trips.
-use Rattle.std.specs.Prelude.{ℕ, ◌≤◌, ◌≡◌, List, [], ◌∷◌, ◌++◌, length, take}
+use Rattle.std.specs.Prelude.{ℕ, ◌≤◌, ◌≡◌, List, [], ◌∷◌, ◌++◌, length, take, Result, Ok, Err}
 use Rattle.words.specs.Checks.{pick}
 use Rattle.words.specs.Le.{Bytes}
 use Rattle.rules.specs.Rules.{record_of}
@@ -12,8 +12,6 @@ use Rattle.layout.specs.Layout.{Each}
 use Rattle.layout.specs.Scan.{found_in, IsAccepted}
 use Rattle.writer.specs.Write.{is_footer, answer_of, written_of, buffer_of, fresh, verdict_of}
 use Rattle.writer.specs.declared.Writer.{Writer}
-use Rattle.writer.specs.declared.Answer.{Answer}
-use Rattle.writer.specs.declared.Answer.TheVariants as answer
 
 pub record Call : Type 0 where
   pub offer : Offer
@@ -26,13 +24,13 @@ pub record Writing : Type 0 where
   pub records : List Record
 
 -- what was written stands at the start of the buffer
-abbrev pub bytes_by : Answer → List ℕ → List ℕ
-bytes_by (answer.Wrote size) buffer = take size buffer
-bytes_by (answer.Refused refusal) buffer = []
+abbrev pub bytes_by : Result ℕ Refusal → List ℕ → List ℕ
+bytes_by (Ok size) buffer = take size buffer
+bytes_by (Err refusal) buffer = []
 
-abbrev pub taken_by : Answer → Record → List Record
-taken_by (answer.Wrote size) r = r ∷ []
-taken_by (answer.Refused refusal) r = []
+abbrev pub taken_by : Result ℕ Refusal → Record → List Record
+taken_by (Ok size) r = r ∷ []
+taken_by (Err refusal) r = []
 
 -- one call; a record taken is as a reader hands it out where the writer stands
 unfoldable pub once : Writer → Call → Writing
@@ -58,7 +56,7 @@ InRanges calls = Each (λ (c : Call). InRange c.offer) calls
 
 -- a refusal changes nothing, neither in the writer nor in the buffer
 abbrev pub RefusedChangesNothing : Type 0
-RefusedChangesNothing = (w : Writer) (o : Offer) (buffer : List ℕ) (refusal : Refusal) → answer_of w o (length buffer) ≡ answer.Refused refusal
+RefusedChangesNothing = (w : Writer) (o : Offer) (buffer : List ℕ) (refusal : Refusal) → answer_of w o (length buffer) ≡ Err refusal
     → ((written_of w o (length buffer)).writer ≡ w) × (buffer_of w o buffer ≡ buffer)
 
 -- the buffer keeps its length
@@ -89,5 +87,5 @@ NeverWraps tag = (calls : List Call) → InRanges calls → held (written (fresh
 
 -- a record taken offers what was offered, so that reading gives the offers back; a header and the end of a section have no hash of their own
 abbrev pub OffersBack : Type 0
-OffersBack = (w : Writer) (o : Offer) (room size : ℕ) → answer_of w o room ≡ answer.Wrote size
+OffersBack = (w : Writer) (o : Offer) (room size : ℕ) → answer_of w o room ≡ Ok size
     → offer_of (record_of w.place (words_of w.tag o)) ≡ record { hash = hash_by o.fields w.tag o.hash; fields = o.fields }

@@ -8,7 +8,7 @@ mod offers;
 mod writing;
 
 // The numbers of a record as the paper's table names them, without those that a writer makes itself.
-#[derive(Clone, Copy)]
+#[derive(Clone, Copy, Debug, PartialEq, Eq)]
 pub enum Fields {
     Header {
         footer_size: u64,
@@ -43,28 +43,22 @@ pub enum Fields {
 }
 
 // What is offered: a hash (of a footer its key) and numbers. A header and the end of a section have no hash; what stands there is not looked at.
-#[derive(Clone, Copy)]
+#[derive(Clone, Copy, Debug, PartialEq, Eq)]
 pub struct Offer {
     pub hash: [u64; 4],
     pub fields: Fields,
 }
 
 // A writer stands at a place of the format, and knows the tag.
-#[derive(Clone, Copy)]
+#[derive(Clone, Copy, Debug, PartialEq, Eq)]
 pub struct Writer {
     pub tag: Tag,
     pub place: Place,
 }
 
-// So many bytes were written, or the refusal.
-#[derive(Clone, Copy)]
-pub enum Answer {
-    Wrote(usize),
-    Refused(Refusal),
-}
-
-#[derive(Clone, Copy)]
+// What a call gives: the next writer, and how many bytes were written, or the refusal.
+#[derive(Clone, Copy, Debug, PartialEq, Eq)]
 pub struct Written {
     pub writer: Writer,
-    pub answer: Answer,
+    pub answer: Result<usize, Refusal>,
 }

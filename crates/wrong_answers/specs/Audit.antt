@@ -1,5 +1,6 @@
 -- Wrong answers of `audit`: segments against the xorbs that the shard lists, by what is answered and by the definitions that its claims speak of.
-use Rattle.std.specs.Prelude.{refl, true, false, List, [], ◌∷◌, ◌++◌, ℕ}
+use Rattle.std.specs.Prelude.{refl, true, false, List, [], ◌∷◌, ◌++◌, ℕ, Result, Ok, Err}
+use Rattle.words.specs.declared.Refusal.{Refusal}
 use Rattle.std.proofs.Math.Option.{none, some}
 use Rattle.cut.specs.Format.{run, push, fill}
 use Rattle.words.specs.Le.{le_at, zeros_at, spell}
@@ -7,15 +8,12 @@ use Rattle.words.specs.Record.{spell_hash, spell_words}
 use Rattle.rules.specs.Rules.{fault_of, kind_of, record_of, next_of, start}
 use Rattle.rules.specs.Verdicts.{refusal_at, verdict_at}
 use Rattle.rules.specs.declared.Due.TheVariants as due
-use Rattle.rules.specs.declared.Verdict.TheVariants as verdict
 use Rattle.layout.specs.Layout.{Segment, FileBlock, Chunk, XorbBlock, file_rows}
 use Rattle.layout.specs.Blocks.{leading}
 use Rattle.layout.specs.Quay.{tag, hash, row, header, bookend}
 use Rattle.layout.specs.Scan.{found_in, scan}
 use Rattle.audit.specs.Audit.{first_block, is_listed, bytes_between, is_true_of, is_false, PlacedSegment, first_false, false_at, audit_in, placed_from, placed_in, blocks_in, audit_of}
-use Rattle.audit.specs.declared.Audited.{Audited}
-use Rattle.audit.specs.declared.Audited.TheVariants as audited
-use Rattle.audit.specs.declared.Audited.TheVariants.{Refused}
+use Rattle.audit.specs.declared.Counts.{Counts}
 use Rattle.wrong_answers.specs.Wrong.{Wrong, ◌not◌by◌, Refuted, refuted}
 use Rattle.wrong_answers.specs.Told.{number, truth, verdict_told, audited_told, placed_told, blocks_told, block_told}
 use Rattle.wrong_answers.specs.Inputs.{other, third, flag31, here, late, claims, xorbs, with_xorbs}
@@ -23,14 +21,14 @@ use Rattle.wrong_answers.specs.Inputs.{other, third, flag31, here, late, claims,
 -- ## Answers
 
 -- so many name a listed xorb, so many another
-abbrev counts : ℕ → ℕ → Audited
-counts listed unlisted = audited.Counted (record { listed = listed; unlisted = unlisted })
+abbrev counts : ℕ → ℕ → Result Counts Refusal
+counts listed unlisted = Ok (record { listed = listed; unlisted = unlisted })
 
 -- to a file of one segment, and to one of three
-abbrev one : List ℕ → Audited
+abbrev one : List ℕ → Result Counts Refusal
 one segment = audit_of tag (with_xorbs 1 segment)
 
-abbrev three : List ℕ → Audited
+abbrev three : List ℕ → Result Counts Refusal
 three segments = audit_of tag (with_xorbs 3 segments)
 
 -- hashes that differ from the first xorb's in one number only, the last or the first
@@ -82,7 +80,7 @@ abbrev wrongs : List Wrong
 wrongs =
     -- ## `audit`: which block
     -- the last block of that hash
-    (one (claims hash 0 1 10) not Refused (false_at 96) by audited_told)
+    (one (claims hash 0 1 10) not Err (false_at 96) by audited_told)
     ∷ (one (claims hash 0 1 1) not counts 1 0 by audited_told)
     -- any block of that hash
     ∷ (three (claims hash 0 1 10 ++ claims hash 0 1 1 ++ claims hash 0 3 60) not counts 3 0 by audited_told)
@@ -93,17 +91,17 @@ wrongs =
     -- the first block, whatever its hash
     ∷ (one (claims third 0 1 10) not counts 1 0 by audited_told)
     -- a hash compared in part
-    ∷ (one (claims last_off 0 1 1) not Refused (false_at 96) by audited_told)
-    ∷ (one (claims first_off 0 1 1) not Refused (false_at 96) by audited_told)
+    ∷ (one (claims last_off 0 1 1) not Err (false_at 96) by audited_told)
+    ∷ (one (claims first_off 0 1 1) not Err (false_at 96) by audited_told)
     -- ## `audit`: the chunk end
     -- the end equal to the count refused
-    ∷ (one (claims hash 0 3 60) not Refused (false_at 96) by audited_told)
+    ∷ (one (claims hash 0 3 60) not Err (false_at 96) by audited_told)
     -- the end one past it taken for the last
     ∷ (one (claims hash 0 4 60) not counts 1 0 by audited_told)
     -- the start held against the count, not the end
     ∷ (one (claims hash 2 4 30) not counts 1 0 by audited_told)
     -- the end of an unlisted one held against some count
-    ∷ (one (claims third 0 9 7) not Refused (false_at 96) by audited_told)
+    ∷ (one (claims third 0 9 7) not Err (false_at 96) by audited_told)
     -- ## `audit`: the bytes
     -- the sum without the last chunk
     ∷ (one (claims hash 0 3 30) not counts 1 0 by audited_told)
@@ -126,7 +124,7 @@ wrongs =
     -- a false segment counted as unlisted
     ∷ (one (claims hash 0 3 61) not counts 0 1 by audited_told)
     -- an unlisted one refused
-    ∷ (one (claims third 0 1 1) not Refused (false_at 96) by audited_told)
+    ∷ (one (claims third 0 1 1) not Err (false_at 96) by audited_told)
     -- counted as listed
     ∷ (one (claims third 0 1 1) not counts 1 0 by audited_told)
     -- not counted
@@ -141,34 +139,34 @@ wrongs =
     ∷ (three (claims third 0 3 60 ++ claims third 0 3 60 ++ claims third 1 3 50) not counts 0 1 by audited_told)
     -- ## `audit`: the position
     -- the file head's
-    ∷ (one (claims hash 0 3 61) not Refused (false_at 48) by audited_told)
+    ∷ (one (claims hash 0 3 61) not Err (false_at 48) by audited_told)
     -- the xorb head's
-    ∷ (one (claims hash 0 3 61) not Refused (false_at 192) by audited_told)
+    ∷ (one (claims hash 0 3 61) not Err (false_at 192) by audited_told)
     -- 0
-    ∷ (one (claims hash 0 3 61) not Refused (false_at 0) by audited_told)
+    ∷ (one (claims hash 0 3 61) not Err (false_at 0) by audited_told)
     -- the first segment's
-    ∷ (three (claims hash 0 3 60 ++ claims hash 0 3 61 ++ claims hash 0 3 60) not Refused (false_at 96) by audited_told)
+    ∷ (three (claims hash 0 3 60 ++ claims hash 0 3 61 ++ claims hash 0 3 60) not Err (false_at 96) by audited_told)
     -- the last false one's
-    ∷ (three (claims hash 0 3 61 ++ claims hash 0 3 60 ++ claims hash 0 3 61) not Refused (false_at 192) by audited_told)
+    ∷ (three (claims hash 0 3 61 ++ claims hash 0 3 60 ++ claims hash 0 3 61) not Err (false_at 192) by audited_told)
     -- verifications taken for segments, or passed over in the position
-    ∷ (audit_of tag verified not Refused (false_at 144) by audited_told)
-    ∷ (audit_of tag verified not Refused (false_at 192) by audited_told)
+    ∷ (audit_of tag verified not Err (false_at 144) by audited_told)
+    ∷ (audit_of tag verified not Err (false_at 192) by audited_told)
     -- the first file only
     ∷ (audit_of tag verified not counts 1 0 by audited_told)
     -- ## `audit`: the number
     -- that of a segment, that of a sum
-    ∷ (one (claims hash 0 3 61) not Refused (refusal_at 10 (here 96 (due.Segment 1))) by audited_told)
-    ∷ (one (claims hash 0 3 61) not Refused (refusal_at 11 (here 96 (due.Segment 1))) by audited_told)
+    ∷ (one (claims hash 0 3 61) not Err (refusal_at 10 (here 96 (due.Segment 1))) by audited_told)
+    ∷ (one (claims hash 0 3 61) not Err (refusal_at 11 (here 96 (due.Segment 1))) by audited_told)
     -- ## `audit`: a refused shard
     -- no segments counted
     ∷ (audit_of tag late not counts 0 0 by audited_told)
     -- 22 before its refusal
-    ∷ (audit_of tag too_long not Refused (false_at 96) by audited_told)
+    ∷ (audit_of tag too_long not Err (false_at 96) by audited_told)
     -- its refusal at 0
-    ∷ (audit_of tag too_long not Refused (refusal_at 14 start) by audited_told)
+    ∷ (audit_of tag too_long not Err (refusal_at 14 start) by audited_told)
     -- ## the verdict, which is apart
     -- a false segment refuses the shard
-    ∷ ((found_in tag (with_xorbs 1 (claims hash 0 3 61))).verdict not verdict.Refused (false_at 96) by verdict_told)
+    ∷ ((found_in tag (with_xorbs 1 (claims hash 0 3 61))).verdict not Err (false_at 96) by verdict_told)
     -- ## `first_block`
     -- the last
     ∷ (first_block hash blocks not some second by block_told)

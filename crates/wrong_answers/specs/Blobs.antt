@@ -1,14 +1,11 @@
 -- Wrong answers of `blobs`: an entry of a blob file found, one written, and all of them counted.
-use Rattle.std.specs.Prelude.{refl, true, false, List, [], ◌∷◌, ◌++◌, ℕ, take, drop, replicate, set}
+use Rattle.std.specs.Prelude.{refl, true, false, List, [], ◌∷◌, ◌++◌, ℕ, take, drop, replicate, set, Result, Ok, Err}
+use Rattle.words.specs.declared.Refusal.{Refusal}
 use Rattle.words.specs.Le.{le_at, le_num, spell, puts, zeros_at}
 use Rattle.words.specs.Refusals.{refused_at}
 use Rattle.blobs.specs.Blobs.{blob, is_digit, are_digits, magic, spell_entry, head_of, whole_of, parts_at, entry_at, blob_in, put_fault, put_of, buffer_of, bytes_in, scan_from, scan_of}
-use Rattle.blobs.specs.declared.Head.TheVariants as head
-use Rattle.blobs.specs.declared.Entry.{Entry}
-use Rattle.blobs.specs.declared.Entry.TheVariants as entry
-use Rattle.blobs.specs.declared.Put.TheVariants as put
-use Rattle.blobs.specs.declared.Scanned.{Scanned}
-use Rattle.blobs.specs.declared.Scanned.TheVariants as scanned
+use Rattle.blobs.specs.declared.Parts.{Parts}
+use Rattle.blobs.specs.declared.Tally.{Tally}
 use Rattle.wrong_answers.specs.Wrong.{Wrong, ◌not◌by◌, Refuted, refuted}
 use Rattle.wrong_answers.specs.Told.{number, numbers, truth, head_told, entry_told, put_told, scanned_told}
 
@@ -48,14 +45,14 @@ with_two i x j y = set (set small i x) j y
 
 -- ## Answers
 
-abbrev refused_with : ℕ → Entry
-refused_with number = entry.Refused (refused_at 0 number)
+abbrev refused_with : ℕ → Result Parts Refusal
+refused_with number = Err (refused_at 0 number)
 
-abbrev found_at : ℕ → ℕ → ℕ → ℕ → Entry
-found_at digits bytes n next = entry.Found (record { digits = record { 0 = digits }; «data» = record { 0 = bytes }; length = n; next = record { 0 = next } })
+abbrev found_at : ℕ → ℕ → ℕ → ℕ → Result Parts Refusal
+found_at digits bytes n next = Ok (record { digits = record { 0 = digits }; «data» = record { 0 = bytes }; length = n; next = record { 0 = next } })
 
-abbrev counts : ℕ → ℕ → Scanned
-counts entries bytes = scanned.Counted (record { entries = entries; bytes = bytes })
+abbrev counts : ℕ → ℕ → Result Tally Refusal
+counts entries bytes = Ok (record { entries = entries; bytes = bytes })
 
 -- the buffer that is lent
 abbrev pub room : ℕ → List ℕ
@@ -76,15 +73,15 @@ wrongs =
     ∷ (entry_at file 0 not found_at 6 110 3 113 by entry_told)
     -- ## `entry_at`: the position
     -- that of the buffer's start
-    ∷ (entry_at (small ++ set bare 0 0) 113 not entry.Refused (refused_at 0 25) by entry_told)
+    ∷ (entry_at (small ++ set bare 0 0) 113 not Err (refused_at 0 25) by entry_told)
     -- at the end: another fault than 24
-    ∷ (entry_at file 223 not entry.Refused (refused_at 223 25) by entry_told)
+    ∷ (entry_at file 223 not Err (refused_at 223 25) by entry_told)
     -- past the end: the end's position
-    ∷ (entry_at file 1000 not entry.Refused (refused_at 223 24) by entry_told)
+    ∷ (entry_at file 1000 not Err (refused_at 223 24) by entry_told)
     -- the last position of all: its sum with 110 wraps, and an entry is found
     ∷ (entry_at file 18446744073709551615 not found_at 13 109 3 112 by entry_told)
     -- one byte is enough for an entry
-    ∷ (entry_at file 114 not entry.Refused (refused_at 114 25) by entry_told)
+    ∷ (entry_at file 114 not Err (refused_at 114 25) by entry_told)
     -- ## `entry_at`: the checks in their order
     ∷ (entry_at (take 109 (with 0 0)) 0 not refused_with 25 by entry_told)
     ∷ (entry_at (with_two 0 0 4 2) 0 not refused_with 26 by entry_told)
@@ -101,7 +98,7 @@ wrongs =
     ∷ (entry_at (with_two 4 0 5 1) 0 not found_at 14 110 3 113 by entry_told)
     -- ## `entry_at`: digits
     -- lower case only; upper case only
-    ∷ (entry_at file 113 not entry.Refused (refused_at 113 27) by entry_told)
+    ∷ (entry_at file 113 not Err (refused_at 113 27) by entry_told)
     ∷ (entry_at file 0 not refused_with 27 by entry_told)
     -- the first digit, the last one not looked at
     ∷ (entry_at (with 14 103) 0 not found_at 14 110 3 113 by entry_told)
@@ -132,9 +129,9 @@ wrongs =
     ∷ (entry_at (small ++ saying 4) 113 not found_at 127 223 4 227 by entry_told)
     -- ## `head_of`
     -- the data must be there too
-    ∷ (head_of (saying 4) not head.Fault 29 by head_told)
+    ∷ (head_of (saying 4) not Err 29 by head_told)
     -- a head cut short
-    ∷ (head_of (take 109 small) not head.Data 3 by head_told)
+    ∷ (head_of (take 109 small) not Ok 3 by head_told)
     -- ## `is_digit`: the bytes beside the digits
     ∷ (is_digit 47 not true by truth)
     ∷ (is_digit 58 not true by truth)
@@ -154,8 +151,8 @@ wrongs =
     ∷ ((blob_in file (parts_at 0 3)).«data» not three ++ bare by numbers)
     -- ## `scan`
     -- the end is a fault
-    ∷ (scan_of file not scanned.Refused (refused_at 223 24) by scanned_told)
-    ∷ (scan_of [] not scanned.Refused (refused_at 0 24) by scanned_told)
+    ∷ (scan_of file not Err (refused_at 223 24) by scanned_told)
+    ∷ (scan_of [] not Err (refused_at 0 24) by scanned_told)
     -- the first entry only; one without data passed over
     ∷ (scan_of file not counts 1 3 by scanned_told)
     ∷ (scan_of bare not counts 0 0 by scanned_told)
@@ -166,32 +163,32 @@ wrongs =
     -- what was good counted, and the rest passed over
     ∷ (scan_of (take 222 file) not counts 1 3 by scanned_told)
     -- a fault's position: the file's start, its end, the place in the entry
-    ∷ (scan_of (take 222 file) not scanned.Refused (refused_at 0 24) by scanned_told)
-    ∷ (scan_of (take 222 file) not scanned.Refused (refused_at 222 24) by scanned_told)
-    ∷ (scan_of (small ++ set bare 78 1) not scanned.Refused (refused_at 191 28) by scanned_told)
+    ∷ (scan_of (take 222 file) not Err (refused_at 0 24) by scanned_told)
+    ∷ (scan_of (take 222 file) not Err (refused_at 222 24) by scanned_told)
+    ∷ (scan_of (small ++ set bare 78 1) not Err (refused_at 191 28) by scanned_told)
     -- the last fault, not the first
-    ∷ (scan_of (with 78 1 ++ set bare 0 0) not scanned.Refused (refused_at 113 25) by scanned_told)
+    ∷ (scan_of (with 78 1 ++ set bare 0 0) not Err (refused_at 113 25) by scanned_told)
     -- a byte behind the last entry passed over
     ∷ (scan_of (file ++ (0 ∷ [])) not counts 2 3 by scanned_told)
     -- ## `put_entry`: the checks
     -- room before digits
-    ∷ (put_of (blob (0 ∷ []) three) 0 not put.Refused (refused_at 0 15) by put_told)
+    ∷ (put_of (blob (0 ∷ []) three) 0 not Err (refused_at 0 15) by put_told)
     -- a hash of 63 digits, of 65
-    ∷ (put_of (blob (drop 1 lower) three) 113 not put.Wrote 113 by put_told)
-    ∷ (put_of (blob (97 ∷ lower) three) 113 not put.Wrote 113 by put_told)
+    ∷ (put_of (blob (drop 1 lower) three) 113 not Ok 113 by put_told)
+    ∷ (put_of (blob (97 ∷ lower) three) 113 not Ok 113 by put_told)
     -- a hash without digits
-    ∷ (put_of (blob (set lower 63 103) three) 113 not put.Wrote 113 by put_told)
+    ∷ (put_of (blob (set lower 63 103) three) 113 not Ok 113 by put_told)
     -- upper case refused
-    ∷ (put_of (blob upper three) 113 not put.Refused (refused_at 0 27) by put_told)
+    ∷ (put_of (blob upper three) 113 not Err (refused_at 0 27) by put_told)
     -- room enough refused; one byte too few is enough; room for the 110 bytes is
-    ∷ (put_of (blob lower three) 113 not put.Refused (refused_at 0 15) by put_told)
-    ∷ (put_of (blob lower three) 112 not put.Wrote 113 by put_told)
-    ∷ (put_of (blob lower three) 110 not put.Wrote 113 by put_told)
+    ∷ (put_of (blob lower three) 113 not Err (refused_at 0 15) by put_told)
+    ∷ (put_of (blob lower three) 112 not Ok 113 by put_told)
+    ∷ (put_of (blob lower three) 110 not Ok 113 by put_told)
     -- so many bytes as the head has, as the data have
-    ∷ (put_of (blob lower three) 113 not put.Wrote 110 by put_told)
-    ∷ (put_of (blob lower three) 113 not put.Wrote 3 by put_told)
+    ∷ (put_of (blob lower three) 113 not Ok 110 by put_told)
+    ∷ (put_of (blob lower three) 113 not Ok 3 by put_told)
     -- a refusal where the room ends
-    ∷ (put_of (blob lower three) 112 not put.Refused (refused_at 112 15) by put_told)
+    ∷ (put_of (blob lower three) 112 not Err (refused_at 112 15) by put_told)
     -- ## `put_entry`: the buffer
     -- refused, the 110 bytes are written
     ∷ (buffer_of (blob lower three) (room 112) not take 110 small ++ room 2 by numbers)

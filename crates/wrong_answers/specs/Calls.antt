@@ -2,6 +2,7 @@
 use Rattle.std.specs.Prelude.{refl, List, [], ◌∷◌, ℕ, take, drop}
 use Rattle.cut.specs.Format.{run, push, fill}
 use Rattle.words.specs.Le.{le_at, le_num, zeros_at, spell, puts}
+use Rattle.words.specs.Refusals.{wrote_numbers}
 use Rattle.words.specs.Record.{spell_hash, spell_words, spell_footer}
 use Rattle.rules.specs.Rules.{fault_of, kind_of, record_of, next_of, start}
 use Rattle.rules.specs.Held.{held}
@@ -18,11 +19,11 @@ use Rattle.writer.specs.Write as write
 use Rattle.writer.specs.Write.{bytes_of, answer_of, written_of, buffer_of}
 use Rattle.finder.specs.Find.{chunk_behind, chunk_in, chunk_found, chunk_numbers, file_in, file_found, file_numbers}
 use Rattle.join.specs.Join as join
-use Rattle.join.specs.Join.{joined_at, joined_bytes, join_fault, answer_for, join_of, joined_numbers}
+use Rattle.join.specs.Join.{joined_at, joined_bytes, join_fault, answer_for, join_of}
 use Rattle.plan.specs.Plan.{rows_for, segments_in, plan_of, answer_to, planned_numbers, table_to}
 use Rattle.audit.specs.Audit.{first_false, audit_in, placed_in, blocks_in, audit_of, audited_numbers}
 use Rattle.blobs.specs.Blobs as blobs
-use Rattle.blobs.specs.Blobs.{blob, are_digits, spell_entry, head_of, whole_of, entry_at, entry_numbers, put_fault, put_of, put_numbers, scan_from, scan_of, scanned_numbers}
+use Rattle.blobs.specs.Blobs.{blob, are_digits, spell_entry, head_of, whole_of, entry_at, entry_numbers, put_fault, put_of, scan_from, scan_of, scanned_numbers}
 use Rattle.host.specs.Boundary.{reader_out, record_out, offer_for, verdict_out, writer_out}
 use Rattle.host.specs.Calls.{Stepped, Read, Put, step_by, read_by, verdict_for, put_by}
 use Rattle.host.specs.declared.ReaderState.{ReaderState}
@@ -187,7 +188,7 @@ wrongs =
     -- first and second exchanged
     ∷ (join.buffer_of tag (one_of_each hash) (one_of_each other) (zeros 336) not join.buffer_of tag (one_of_each other) (one_of_each hash) (zeros 336) by numbers)
     -- a refused join said to have written
-    ∷ ((joined_numbers (join_of tag empty late 145)).wrote not 145 by number)
+    ∷ ((wrote_numbers (join_of tag empty late 145)).wrote not 145 by number)
     -- the buffer left as it was
     ∷ (join.buffer_of tag empty empty (zeros 144) not zeros 144 by numbers)
     -- ## `mdb_plan`
@@ -213,7 +214,7 @@ wrongs =
     ∷ ((entry_numbers (entry_at file 1000)).number not 0 by number)
     -- ## `mdb_blob_put_entry`
     -- digits and data exchanged
-    ∷ ((put_numbers (put_of (blob lower three) 113)).number not (put_numbers (put_of (blob three lower) 113)).number by number)
+    ∷ ((wrote_numbers (put_of (blob lower three) 113)).number not (wrote_numbers (put_of (blob three lower) 113)).number by number)
     -- the buffer left as it was
     ∷ (blobs.buffer_of (blob lower three) (room 113) not room 113 by numbers)
     -- ## `mdb_blob_scan`

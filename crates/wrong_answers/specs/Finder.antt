@@ -1,5 +1,5 @@
 -- Wrong answers of `finder`: a chunk or a file by its hash, and the 48 bytes at a position.
-use Rattle.std.specs.Prelude.{refl, List, [], ◌∷◌, ℕ, take}
+use Rattle.std.specs.Prelude.{refl, List, [], ◌∷◌, ℕ, take, None, Ok}
 use Rattle.cut.specs.Format.{run, push, fill}
 use Rattle.words.specs.Le.{le_at, zeros_at, spell}
 use Rattle.words.specs.Record.{spell_hash, spell_words}
@@ -7,20 +7,16 @@ use Rattle.rules.specs.Rules.{fault_of, kind_of, record_of, next_of}
 use Rattle.rules.specs.Verdicts.{verdict_at}
 use Rattle.layout.specs.Quay.{tag, hash}
 use Rattle.layout.specs.Scan.{found_in, scan}
-use Rattle.finder.specs.Find.{chunk_behind, chunk_in, chunk_found, file_in, file_found, part_at}
-use Rattle.finder.specs.declared.FoundChunk.{FoundChunk}
-use Rattle.finder.specs.declared.FoundChunk.TheVariants as chunk
-use Rattle.finder.specs.declared.FoundFile.{FoundFile}
-use Rattle.finder.specs.declared.FoundFile.TheVariants as file
+use Rattle.finder.specs.Find.{ChunkAnswer, the_chunk, chunk_behind, chunk_in, chunk_found, FileAnswer, the_file, file_in, file_found, part_at}
 use Rattle.wrong_answers.specs.Wrong.{Wrong, ◌not◌by◌, Refuted, refuted}
 use Rattle.wrong_answers.specs.Told.{numbers, chunk_told, file_told}
 use Rattle.wrong_answers.specs.Inputs.{other, chunks, files, good_segment}
 
-abbrev chunk_at : ℕ → ℕ → ℕ → FoundChunk
-chunk_at block index at = chunk.At (record { 0 = block }) (record { 0 = index }) (record { 0 = at })
+abbrev chunk_at : ℕ → ℕ → ℕ → ChunkAnswer
+chunk_at block index at = the_chunk (record { 0 = block }) (record { 0 = index }) (record { 0 = at })
 
-abbrev file_at : ℕ → ℕ → FoundFile
-file_at number at = file.At (record { 0 = number }) (record { 0 = at })
+abbrev file_at : ℕ → ℕ → FileAnswer
+file_at number at = the_file (record { 0 = number }) (record { 0 = at })
 
 abbrev wrongs : List Wrong
 wrongs =
@@ -28,7 +24,7 @@ wrongs =
     -- the block number one off
     (chunk_found tag chunks hash not chunk_at 1 0 144 by chunk_told)
     -- the first chunk passed over
-    ∷ (chunk_found tag chunks hash not chunk.Absent by chunk_told)
+    ∷ (chunk_found tag chunks hash not Ok None by chunk_told)
     -- another index
     ∷ (chunk_found tag chunks other not chunk_at 0 0 192 by chunk_told)
     -- ## `find_file`

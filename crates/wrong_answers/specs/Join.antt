@@ -1,5 +1,5 @@
 -- Wrong answers of `join`: one shard of two in a buffer, by what is answered and by what is written.
-use Rattle.std.specs.Prelude.{refl, true, false, List, [], ◌∷◌, ◌++◌, ℕ, ◌+◌, length, take, replicate}
+use Rattle.std.specs.Prelude.{refl, true, false, List, [], ◌∷◌, ◌++◌, ℕ, ◌+◌, length, take, replicate, Ok, Err}
 use Rattle.cut.specs.Format.{run, push, fill}
 use Rattle.words.specs.Le.{le_at, zeros_at, spell}
 use Rattle.words.specs.Record.{spell_hash, spell_words}
@@ -12,7 +12,6 @@ use Rattle.layout.specs.Scan.{found_in, scan}
 use Rattle.layout.specs.Reach.{last_place}
 use Rattle.join.specs.Join.{joined_at, joined_bytes, join_fault, fault_for, answer_for, join_of, buffer_of}
 use Rattle.join.specs.Claims.{of_file, of_xorb, records_in}
-use Rattle.join.specs.declared.Joined.TheVariants.{Wrote, Refused}
 use Rattle.wrong_answers.specs.Wrong.{Wrong, ◌not◌by◌, Refuted, refuted}
 use Rattle.wrong_answers.specs.Told.{number, numbers, joined_told}
 use Rattle.wrong_answers.specs.Inputs.{other, flag31, here, at_end, zeros, empty, late, file_with, footed, empty_file, empty_xorb, one_of_each}
@@ -35,33 +34,33 @@ abbrev wrongs : List Wrong
 wrongs =
     -- ## `join`
     -- the length with a bookend too many
-    (join_of tag former latter 480 not Wrote 384 by joined_told)
+    (join_of tag former latter 480 not Ok 384 by joined_told)
     -- the length with nothing saved
-    ∷ (join_of tag former latter 480 not Wrote 480 by joined_told)
+    ∷ (join_of tag former latter 480 not Ok 480 by joined_told)
     -- a buffer as long as the result refused
-    ∷ (join_of tag empty empty 144 not Refused (refusal_at 15 start) by joined_told)
+    ∷ (join_of tag empty empty 144 not Err (refusal_at 15 start) by joined_told)
     -- 9 where the first has no files
-    ∷ (join_of tag empty (file_with flag31) 192 not Refused (refusal_at 9 start) by joined_told)
+    ∷ (join_of tag empty (file_with flag31) 192 not Err (refusal_at 9 start) by joined_told)
     -- 9 where the second has none
-    ∷ (join_of tag (file_with flag31) empty 192 not Refused (refusal_at 9 start) by joined_told)
+    ∷ (join_of tag (file_with flag31) empty 192 not Err (refusal_at 9 start) by joined_told)
     -- files that differ about bit 31 joined
-    ∷ (join_of tag (file_with flag31) (file_with 0) 240 not Wrote 240 by joined_told)
+    ∷ (join_of tag (file_with flag31) (file_with 0) 240 not Ok 240 by joined_told)
     -- 15 before 9
-    ∷ (join_of tag (file_with flag31) (file_with 0) 239 not Refused (refusal_at 15 start) by joined_told)
+    ∷ (join_of tag (file_with flag31) (file_with 0) 239 not Err (refusal_at 15 start) by joined_told)
     -- 9 before 30
-    ∷ (join_of tag footed (file_with 0) 440 not Refused (refusal_at 9 start) by joined_told)
+    ∷ (join_of tag footed (file_with 0) 440 not Err (refusal_at 9 start) by joined_told)
     -- a footer in the first passed over
-    ∷ (join_of tag footed empty 392 not Wrote 392 by joined_told)
+    ∷ (join_of tag footed empty 392 not Ok 392 by joined_told)
     -- one in the second passed over
-    ∷ (join_of tag empty footed 392 not Wrote 392 by joined_told)
+    ∷ (join_of tag empty footed 392 not Ok 392 by joined_told)
     -- 30 at the footer
-    ∷ (join_of tag footed empty 392 not Refused (refusal_at 30 (here 192 due.Footer)) by joined_told)
+    ∷ (join_of tag footed empty 392 not Err (refusal_at 30 (here 192 due.Footer)) by joined_told)
     -- 30 before the second shard's refusal
-    ∷ (join_of tag footed late 393 not Refused (refusal_at 30 start) by joined_told)
+    ∷ (join_of tag footed late 393 not Err (refusal_at 30 start) by joined_told)
     -- the second shard's refusal before the first's
-    ∷ (join_of tag late (header 0) 144 not Refused (refusal_at 1 (here 48 due.FileHead)) by joined_told)
+    ∷ (join_of tag late (header 0) 144 not Err (refusal_at 1 (here 48 due.FileHead)) by joined_told)
     -- the second shard's refusal at a position behind the first
-    ∷ (join_of tag empty late 145 not Refused (refusal_at 14 (here 288 due.End)) by joined_told)
+    ∷ (join_of tag empty late 145 not Err (refusal_at 14 (here 288 due.End)) by joined_told)
     -- xorbs before files
     ∷ (buffer_of tag former latter (zeros 336) not header 0 ++ empty_xorb hash ++ empty_xorb other ++ bookend ++ empty_file hash ++ empty_file other ++ bookend by numbers)
     -- the second one's files first

@@ -5,7 +5,7 @@ use Rattle.words.specs.Le.{le_at, zeros_at, spell}
 use Rattle.words.specs.Record.{spell_hash, spell_words}
 use Rattle.rules.specs.Rules.{fault_of, kind_of, record_of, next_of}
 use Rattle.rules.specs.Held.{held}
-use Rattle.rules.specs.Verdicts.{verdict_at, numbers_of}
+use Rattle.rules.specs.Verdicts.{verdict_at}
 use Rattle.layout.specs.Quay.{tag, header}
 use Rattle.layout.specs.Scan.{found_in, scan}
 use Rattle.reader.specs.Stream.{fresh, step_of}
@@ -14,6 +14,7 @@ use Rattle.writer.specs.Offers.{words_of}
 use Rattle.writer.specs.Write as write
 use Rattle.writer.specs.Write.{bytes_of, answer_of, buffer_of}
 use Rattle.writer.specs.declared.Fields.TheVariants as fields
+use Rattle.host.specs.Boundary.{verdict_out}
 use Rattle.wrong_answers.specs.Wrong.{Wrong, ◌not◌by◌, Refuted, refuted}
 use Rattle.wrong_answers.specs.Told.{number, numbers, verdict_told}
 use Rattle.wrong_answers.specs.Inputs.{offer, zeros, empty, late, chunks}
@@ -21,7 +22,7 @@ use Rattle.wrong_answers.specs.Inputs.{offer, zeros, empty, late, chunks}
 abbrev wrongs : List Wrong
 wrongs =
     -- a reader that refuses all: the shard of 144 bytes is accepted
-    ((numbers_of (found_in tag empty).verdict).refusal.number not 1 by number)
+    ((verdict_out (found_in tag empty).verdict).number not 1 by number)
     -- one that says the same each time: the shard and its extra byte
     ∷ ((found_in tag late).verdict not (found_in tag empty).verdict by verdict_told)
     -- one that takes no bytes
@@ -31,7 +32,7 @@ wrongs =
     -- one that hands all out in one call: one call for the whole shard gives one record, and not its three
     ∷ (length (offers 1 (fresh tag) empty).records not 3 by number)
     -- invented counts: two chunks are two
-    ∷ ((numbers_of (found_in tag chunks).verdict).summary.totals.chunks not 3 by number)
+    ∷ ((verdict_out (found_in tag chunks).verdict).totals.chunks not 3 by number)
     -- a writer that writes nothing
     ∷ (buffer_of (write.fresh tag) (offer (fields.Header 0)) (zeros 48) not zeros 48 by numbers)
     ∷ []

@@ -1,5 +1,6 @@
 -- Wrong answers of `plan`: the pieces to fetch for a stretch of a file, by what is answered and by what is in the table.
-use Rattle.std.specs.Prelude.{refl, true, false, List, [], ◌∷◌, ◌++◌, map, ℕ, ◌+◌, ◌-◌, take, drop, replicate}
+use Rattle.std.specs.Prelude.{refl, true, false, List, [], ◌∷◌, ◌++◌, map, ℕ, ◌+◌, ◌-◌, take, drop, replicate, Result, Ok, Err}
+use Rattle.words.specs.declared.Refusal.{Refusal}
 use Rattle.std.proofs.Math.Option.{none, some}
 use Rattle.cut.specs.Format.{run, push, fill}
 use Rattle.words.specs.Le.{le_at, zeros_at, spell}
@@ -15,8 +16,6 @@ use Rattle.layout.specs.Scan.{found_in, scan}
 use Rattle.plan.specs.Plan.{Extent, shares, row_for, rows_for, file_bytes, segments_at, segments_in, fetch, refused_with, plan_for, plan_of, answer_to, table_to}
 use Rattle.plan.specs.Claims.{Store, fetched, stretch}
 use Rattle.plan.specs.declared.Row.{Row}
-use Rattle.plan.specs.declared.Planned.{Planned}
-use Rattle.plan.specs.declared.Planned.TheVariants.{Rows, Refused}
 use Rattle.wrong_answers.specs.Wrong.{Wrong, ◌not◌by◌, Refuted, refuted}
 use Rattle.wrong_answers.specs.Told.{number, numbers, truth, planned_told, rows_told, plan_told, segments_told, file_segments_told}
 use Rattle.wrong_answers.specs.Inputs.{other, flag31, flag30, here, fetch_row, lent_row, late, chunks, good_segment, three_segments}
@@ -42,7 +41,7 @@ last64 = 18446744073709551615
 -- ## What `plan` gives, by shard, file number, a and b
 
 -- the answer, with room for so many rows
-abbrev answer : List ℕ → ℕ → ℕ → ℕ → ℕ → Planned
+abbrev answer : List ℕ → ℕ → ℕ → ℕ → ℕ → Result ℕ Refusal
 answer shard file a b room = answer_to (plan_of tag shard file a b room)
 
 -- the table, of so many rows that were lent
@@ -82,83 +81,83 @@ abbrev wrongs : List Wrong
 wrongs =
     -- ## `plan`: how many rows
     -- a row for a segment that ends where the range starts
-    (answer three_segments 0 3 5 3 not Rows 2 by planned_told)
+    (answer three_segments 0 3 5 3 not Ok 2 by planned_told)
     -- one for a segment that starts where the range ends
-    ∷ (answer three_segments 0 0 3 3 not Rows 2 by planned_told)
+    ∷ (answer three_segments 0 0 3 3 not Ok 2 by planned_told)
     -- one for a segment of no bytes
-    ∷ (answer three_segments 0 0 5 3 not Rows 3 by planned_told)
+    ∷ (answer three_segments 0 0 5 3 not Ok 3 by planned_told)
     -- the walk ends at a segment of no bytes
-    ∷ (answer three_segments 0 0 5 3 not Rows 1 by planned_told)
+    ∷ (answer three_segments 0 0 5 3 not Ok 1 by planned_told)
     -- the length of the table for their number
-    ∷ (answer three_segments 0 0 5 9 not Rows 9 by planned_told)
+    ∷ (answer three_segments 0 0 5 9 not Ok 9 by planned_told)
     -- the bytes taken for their number
-    ∷ (answer three_segments 0 0 5 9 not Rows 5 by planned_told)
+    ∷ (answer three_segments 0 0 5 9 not Ok 5 by planned_told)
     -- ## `plan`: room
     -- a table that is too short filled, and its length answered
-    ∷ (answer three_segments 0 1 4 1 not Rows 1 by planned_told)
+    ∷ (answer three_segments 0 1 4 1 not Ok 1 by planned_told)
     -- more rows answered than it has
-    ∷ (answer three_segments 0 1 4 1 not Rows 2 by planned_told)
+    ∷ (answer three_segments 0 1 4 1 not Ok 2 by planned_told)
     -- a table just long enough refused
-    ∷ (answer three_segments 0 1 4 2 not Refused (refusal_at 15 start) by planned_told)
+    ∷ (answer three_segments 0 1 4 2 not Err (refusal_at 15 start) by planned_told)
     -- room asked for every segment
-    ∷ (answer three_segments 0 3 5 1 not Refused (refusal_at 15 start) by planned_told)
+    ∷ (answer three_segments 0 3 5 1 not Err (refusal_at 15 start) by planned_told)
     -- ## `plan`: the range
     -- a range of no bytes planned, with no rows
-    ∷ (answer three_segments 0 2 2 2 not Rows 0 by planned_told)
+    ∷ (answer three_segments 0 2 2 2 not Ok 0 by planned_told)
     -- one row for it
-    ∷ (answer three_segments 0 2 2 2 not Rows 1 by planned_told)
+    ∷ (answer three_segments 0 2 2 2 not Ok 1 by planned_told)
     -- a above b planned, with no rows
-    ∷ (answer three_segments 0 4 1 2 not Rows 0 by planned_told)
+    ∷ (answer three_segments 0 4 1 2 not Ok 0 by planned_told)
     -- a above b planned from b up to a
-    ∷ (answer three_segments 0 4 1 2 not Rows 2 by planned_told)
+    ∷ (answer three_segments 0 4 1 2 not Ok 2 by planned_told)
     -- b one past the file's end planned
-    ∷ (answer three_segments 0 4 6 2 not Rows 1 by planned_told)
+    ∷ (answer three_segments 0 4 6 2 not Ok 1 by planned_told)
     -- b at the file's end refused
-    ∷ (answer three_segments 0 4 5 2 not Refused (refusal_at 18 start) by planned_told)
+    ∷ (answer three_segments 0 4 5 2 not Err (refusal_at 18 start) by planned_told)
     -- no bytes of an empty file planned
-    ∷ (answer three_segments 1 0 0 2 not Rows 0 by planned_told)
+    ∷ (answer three_segments 1 0 0 2 not Ok 0 by planned_told)
     -- b and one more wraps to 0
-    ∷ (answer three_segments 0 0 last64 2 not Rows 2 by planned_told)
+    ∷ (answer three_segments 0 0 last64 2 not Ok 2 by planned_told)
     -- a and one more wraps to 0
-    ∷ (answer three_segments 0 last64 3 2 not Rows 0 by planned_told)
+    ∷ (answer three_segments 0 last64 3 2 not Ok 0 by planned_told)
     -- both do
-    ∷ (answer three_segments 0 last64 last64 2 not Rows 0 by planned_told)
+    ∷ (answer three_segments 0 last64 last64 2 not Ok 0 by planned_told)
     -- the file's bytes added in 32 bits
-    ∷ (answer large 0 4294967296 4294967298 1 not Refused (refusal_at 18 start) by planned_told)
+    ∷ (answer large 0 4294967296 4294967298 1 not Err (refusal_at 18 start) by planned_told)
     -- the byte behind a segment counted in 32 bits
-    ∷ (answer large 0 4294967296 4294967298 1 not Rows 0 by planned_told)
+    ∷ (answer large 0 4294967296 4294967298 1 not Ok 0 by planned_told)
     -- ## `plan`: the file
     -- files counted from 1
-    ∷ (answer three_segments 0 0 5 2 not Refused (refusal_at 17 start) by planned_told)
-    ∷ (answer three_segments 1 0 5 2 not Rows 2 by planned_told)
+    ∷ (answer three_segments 0 0 5 2 not Err (refusal_at 17 start) by planned_told)
+    ∷ (answer three_segments 1 0 5 2 not Ok 2 by planned_told)
     -- 17 for the last file
-    ∷ (answer verified 1 0 7 1 not Refused (refusal_at 17 start) by planned_told)
+    ∷ (answer verified 1 0 7 1 not Err (refusal_at 17 start) by planned_told)
     -- a file one past the last planned
-    ∷ (answer verified 2 0 7 1 not Rows 1 by planned_told)
+    ∷ (answer verified 2 0 7 1 not Ok 1 by planned_told)
     -- 17 for an empty file
-    ∷ (answer three_segments 1 0 1 2 not Refused (refusal_at 17 start) by planned_told)
+    ∷ (answer three_segments 1 0 1 2 not Err (refusal_at 17 start) by planned_told)
     -- a verification or a metadata record taken for the next file's head
-    ∷ (answer verified 1 0 7 1 not Refused (refusal_at 18 start) by planned_told)
+    ∷ (answer verified 1 0 7 1 not Err (refusal_at 18 start) by planned_told)
     -- a xorb and its chunks taken for a file and its segments
-    ∷ (answer chunks 0 0 30 2 not Rows 2 by planned_told)
+    ∷ (answer chunks 0 0 30 2 not Ok 2 by planned_told)
     -- ## `plan`: the order of refusals
     -- 15 before 18
-    ∷ (answer three_segments 0 0 6 0 not Refused (refusal_at 15 start) by planned_told)
+    ∷ (answer three_segments 0 0 6 0 not Err (refusal_at 15 start) by planned_told)
     -- 18 before 17
-    ∷ (answer three_segments 2 1 1 2 not Refused (refusal_at 18 start) by planned_told)
+    ∷ (answer three_segments 2 1 1 2 not Err (refusal_at 18 start) by planned_told)
     -- 17 before the shard's refusal
-    ∷ (answer late 0 0 1 2 not Refused (refusal_at 17 start) by planned_told)
+    ∷ (answer late 0 0 1 2 not Err (refusal_at 17 start) by planned_told)
     -- a refused shard planned
-    ∷ (answer too_long 0 0 5 2 not Rows 2 by planned_told)
+    ∷ (answer too_long 0 0 5 2 not Ok 2 by planned_told)
     -- ## `plan`: positions of refusals
     -- 17 where the files end
-    ∷ (answer three_segments 2 0 1 2 not Refused (refusal_at 17 (here 288 due.FileHead)) by planned_told)
+    ∷ (answer three_segments 2 0 1 2 not Err (refusal_at 17 (here 288 due.FileHead)) by planned_told)
     -- 18 at the file's head
-    ∷ (answer three_segments 0 4 6 2 not Refused (refusal_at 18 (here 48 due.FileHead)) by planned_told)
+    ∷ (answer three_segments 0 4 6 2 not Err (refusal_at 18 (here 48 due.FileHead)) by planned_told)
     -- 15 at the segment that finds no room
-    ∷ (answer three_segments 0 1 4 1 not Refused (refusal_at 15 (here 192 (due.Segment 1))) by planned_told)
+    ∷ (answer three_segments 0 1 4 1 not Err (refusal_at 15 (here 192 (due.Segment 1))) by planned_told)
     -- the shard's refusal at 0
-    ∷ (answer late 0 0 1 2 not Refused (refusal_at 14 start) by planned_told)
+    ∷ (answer late 0 0 1 2 not Err (refusal_at 14 start) by planned_told)
     -- ## `plan`: the rows in the table
     -- in another order
     ∷ (table three_segments 0 1 4 2 not fetch_row other 0 2 0 1 ∷ fetch_row hash 1 4 1 2 ∷ [] by rows_told)

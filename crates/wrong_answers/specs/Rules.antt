@@ -1,17 +1,16 @@
 -- Wrong answers of `rules`: checks, kinds, records, the next place, refusals and verdicts.
-use Rattle.std.specs.Prelude.{refl, Bool, true, false, List, [], ◌∷◌, ℕ, ◌+◌}
+use Rattle.std.specs.Prelude.{refl, Bool, true, false, List, [], ◌∷◌, ℕ, ◌+◌, Err}
 use Rattle.words.specs.declared.Footer.{Footer}
 use Rattle.rules.specs.Rules.{fault_of, footer_fault, kind_of, record_of, next_of, size_by, same31, further_records, with_offset, counts, moved_to, start}
 use Rattle.rules.specs.Held.{held}
 use Rattle.rules.specs.Kinds.{row_of, same_kind, is_due, not_due}
-use Rattle.rules.specs.Verdicts.{refused, refusal_at, verdict_at, numbers_of, summary_of}
+use Rattle.rules.specs.Verdicts.{refused, refusal_at, verdict_at}
 use Rattle.rules.specs.declared.Place.{Place}
 use Rattle.rules.specs.declared.Kind.TheVariants as kind
 use Rattle.rules.specs.declared.Due.TheVariants as due
-use Rattle.rules.specs.declared.Verdict.TheVariants as verdict
 use Rattle.wrong_answers.specs.Wrong.{Wrong, ◌not◌by◌, Refuted, refuted}
 use Rattle.wrong_answers.specs.Told.{number, truth, due_told, verdict_told}
-use Rattle.wrong_answers.specs.Inputs.{words, ones_words, flag31, flag30, four, here, at_end, at_segment, at_footer}
+use Rattle.wrong_answers.specs.Inputs.{words, ones_words, flag31, flag30, four, here, at_segment, at_footer}
 
 -- where a second file head is due, the first file having had no flags
 abbrev at_second_file : Place
@@ -78,9 +77,9 @@ wrongs =
     ∷ ((refusal_at 7 at_segment).at.0 not 0 by number)
     -- ## `Place::verdict`
     -- 2 where a footer is due
-    ∷ (verdict_at at_footer not verdict.Refused (refusal_at 2 at_footer) by verdict_told)
+    ∷ (verdict_at at_footer not Err (refusal_at 2 at_footer) by verdict_told)
     -- a stored refusal forgotten
-    ∷ (verdict_at (refused 7 at_segment) not verdict.Refused (refusal_at 1 at_segment) by verdict_told)
+    ∷ (verdict_at (refused 7 at_segment) not Err (refusal_at 1 at_segment) by verdict_told)
     -- ## `Due::size`
     -- a footer of 48 bytes
     ∷ (size_by due.Footer not 48 by number)
@@ -106,11 +105,6 @@ wrongs =
     ∷ (same_kind kind.Footer kind.Header not true by truth)
     -- an earlier row the same
     ∷ (same_kind kind.Header kind.Footer not true by truth)
-    -- ## `Verdict::numbers`
-    -- a number for an accepted shard
-    ∷ ((numbers_of (verdict.Accepted (summary_of at_end))).refusal.number not 1 by number)
-    -- a length beside a refusal
-    ∷ ((numbers_of (verdict.Refused (refusal_at 14 at_end))).summary.length not 144 by number)
     -- ## `further_records`
     -- metadata not counted
     ∷ (further_records flag30 5 not 5 by number)

@@ -1,36 +1,25 @@
 -- How answers are told in numbers, so that two of them can be compared. What is told need not be all of an answer: two that are told otherwise differ.
 -- An enum is told by the paper's numbers for it, or as it crosses to C (crate host, specs/Boundary).
-use Rattle.std.specs.Prelude.{ℕ, Bool, List, [], ◌∷◌, ◌++◌}
+use Rattle.std.specs.Prelude.{ℕ, Bool, List, [], ◌∷◌, ◌++◌, Result, Ok, Err}
+use Rattle.words.specs.Refusals.{wrote_numbers}
+use Rattle.words.specs.declared.Refusal.{Refusal}
 use Rattle.std.proofs.Math.Option.{Option, none, some}
 use Rattle.words.specs.Record.{no_tag}
 use Rattle.rules.specs.Kinds.{row_of}
-use Rattle.rules.specs.Verdicts.{numbers_of}
 use Rattle.rules.specs.declared.Due.{Due}
-use Rattle.rules.specs.declared.Verdict.{Verdict}
+use Rattle.rules.specs.Verdicts.{Verdict}
 use Rattle.layout.specs.Layout.{Segment, XorbBlock, joined}
-use Rattle.reader.specs.Stream.{said_number, refusal_said}
-use Rattle.reader.specs.declared.Said.{Said}
 use Rattle.writer.specs.Offers.{kind_by, words_by}
-use Rattle.writer.specs.Write.{wrote_by, refusal_by}
 use Rattle.writer.specs.declared.Fields.{Fields}
-use Rattle.writer.specs.declared.Answer.{Answer}
-use Rattle.finder.specs.Find.{chunk_numbers, file_numbers}
-use Rattle.finder.specs.declared.FoundChunk.{FoundChunk}
-use Rattle.finder.specs.declared.FoundFile.{FoundFile}
-use Rattle.join.specs.Join.{joined_numbers}
-use Rattle.join.specs.declared.Joined.{Joined}
+use Rattle.finder.specs.Find.{ChunkAnswer, chunk_numbers, FileAnswer, file_numbers}
 use Rattle.plan.specs.Plan.{Plan, answer_to, planned_numbers, table_to}
 use Rattle.plan.specs.declared.Row.{Row}
-use Rattle.plan.specs.declared.Planned.{Planned}
 use Rattle.audit.specs.Audit.{PlacedSegment, audited_numbers}
-use Rattle.audit.specs.declared.Audited.{Audited}
-use Rattle.blobs.specs.Blobs.{entry_numbers, put_numbers, scanned_numbers}
-use Rattle.blobs.specs.declared.Head.{Head}
-use Rattle.blobs.specs.declared.Head.TheVariants as head
-use Rattle.blobs.specs.declared.Entry.{Entry}
-use Rattle.blobs.specs.declared.Put.{Put}
-use Rattle.blobs.specs.declared.Scanned.{Scanned}
-use Rattle.host.specs.Boundary.{mark, due_out}
+use Rattle.audit.specs.declared.Counts.{Counts}
+use Rattle.blobs.specs.Blobs.{entry_numbers, scanned_numbers}
+use Rattle.blobs.specs.declared.Parts.{Parts}
+use Rattle.blobs.specs.declared.Tally.{Tally}
+use Rattle.host.specs.Boundary.{mark, due_out, verdict_out}
 
 abbrev pub number : ℕ → List ℕ
 number n = n ∷ []
@@ -45,29 +34,26 @@ abbrev pub due_told : Due → List ℕ
 due_told d = (due_out d).code ∷ (due_out d).left ∷ (due_out d).sum ∷ (due_out d).total ∷ []
 
 abbrev pub verdict_told : Verdict → List ℕ
-verdict_told v = (numbers_of v).refusal.number ∷ (numbers_of v).refusal.at.0 ∷ (numbers_of v).summary.length ∷ []
+verdict_told v = (verdict_out v).number ∷ (verdict_out v).at ∷ (verdict_out v).length ∷ []
 
-abbrev pub said_told : Said → List ℕ
-said_told s = said_number s ∷ (refusal_said s).number ∷ (refusal_said s).at.0 ∷ []
-
-abbrev pub answer_told : Answer → List ℕ
-answer_told a = wrote_by a ∷ (refusal_by a).number ∷ (refusal_by a).at.0 ∷ []
+abbrev pub answer_told : Result ℕ Refusal → List ℕ
+answer_told a = (wrote_numbers a).wrote ∷ (wrote_numbers a).number ∷ (wrote_numbers a).at ∷ []
 
 abbrev pub fields_told : Fields → List ℕ
 fields_told f =
     let w = words_by f no_tag [] in
     row_of (kind_by f) ∷ w.a ∷ w.b ∷ w.c ∷ w.d ∷ []
 
-abbrev pub chunk_told : FoundChunk → List ℕ
+abbrev pub chunk_told : ChunkAnswer → List ℕ
 chunk_told f = (chunk_numbers f).said ∷ (chunk_numbers f).block ∷ (chunk_numbers f).index ∷ (chunk_numbers f).at ∷ (chunk_numbers f).number ∷ []
 
-abbrev pub file_told : FoundFile → List ℕ
+abbrev pub file_told : FileAnswer → List ℕ
 file_told f = (file_numbers f).said ∷ (file_numbers f).file ∷ (file_numbers f).at ∷ (file_numbers f).number ∷ []
 
-abbrev pub joined_told : Joined → List ℕ
-joined_told j = (joined_numbers j).wrote ∷ (joined_numbers j).at ∷ (joined_numbers j).number ∷ []
+abbrev pub joined_told : Result ℕ Refusal → List ℕ
+joined_told j = (wrote_numbers j).wrote ∷ (wrote_numbers j).at ∷ (wrote_numbers j).number ∷ []
 
-abbrev pub planned_told : Planned → List ℕ
+abbrev pub planned_told : Result ℕ Refusal → List ℕ
 planned_told p = (planned_numbers p).rows ∷ (planned_numbers p).at ∷ (planned_numbers p).number ∷ []
 
 abbrev pub rows_told : List Row → List ℕ
@@ -85,7 +71,7 @@ abbrev pub file_segments_told : Option (List Segment) → List ℕ
 file_segments_told none = []
 file_segments_told (some segments) = 1 ∷ segments_told segments
 
-abbrev pub audited_told : Audited → List ℕ
+abbrev pub audited_told : Result Counts Refusal → List ℕ
 audited_told a = (audited_numbers a).listed ∷ (audited_numbers a).unlisted ∷ (audited_numbers a).at ∷ (audited_numbers a).number ∷ []
 
 abbrev pub placed_told : List PlacedSegment → List ℕ
@@ -99,15 +85,15 @@ abbrev pub block_told : Option XorbBlock → List ℕ
 block_told none = []
 block_told (some x) = blocks_told (x ∷ [])
 
-abbrev pub head_told : Head → List ℕ
-head_told (head.Data n) = 0 ∷ n ∷ []
-head_told (head.Fault number) = 1 ∷ number ∷ []
+abbrev pub head_told : Result ℕ ℕ → List ℕ
+head_told (Ok n) = 0 ∷ n ∷ []
+head_told (Err number) = 1 ∷ number ∷ []
 
-abbrev pub entry_told : Entry → List ℕ
+abbrev pub entry_told : Result Parts Refusal → List ℕ
 entry_told e = (entry_numbers e).digits ∷ (entry_numbers e).«data» ∷ (entry_numbers e).length ∷ (entry_numbers e).next ∷ (entry_numbers e).at ∷ (entry_numbers e).number ∷ []
 
-abbrev pub put_told : Put → List ℕ
-put_told p = (put_numbers p).wrote ∷ (put_numbers p).at ∷ (put_numbers p).number ∷ []
+abbrev pub put_told : Result ℕ Refusal → List ℕ
+put_told p = (wrote_numbers p).wrote ∷ (wrote_numbers p).at ∷ (wrote_numbers p).number ∷ []
 
-abbrev pub scanned_told : Scanned → List ℕ
+abbrev pub scanned_told : Result Tally Refusal → List ℕ
 scanned_told s = (scanned_numbers s).entries ∷ (scanned_numbers s).bytes ∷ (scanned_numbers s).at ∷ (scanned_numbers s).number ∷ []

@@ -9,6 +9,3 @@ returns-then-have-eq0 c =
     let a = c.args in
     let e : a.lacks ≡ 48 = omega arith in
     rw (c.read.ensures, c.if-have-eq0.true, e) (words_pasted a.carry.now a.piece.now (omega arith))
-
-pub returns-else-have-eq0 : goal.returns-else-have-eq0
-returns-else-have-eq0 c = rw (c.read-else-have-eq0.ensures, c.filled-c.ensures)

@@ -1,5 +1,9 @@
--- The turns left get less.
+-- What the input lost was fed to the reader.
+use Rattle.std.proofs.Common.{◌<◌, length}
+use Rattle.shardline.proofs.Ended.{Got}
 use Rattle.shardline.proofs.read_all.Given as goal
 
-abbrev pub decreases-loop-turns : goal.decreases-loop-turns
-decreases-loop-turns g l = l.turns
+abbrev pub invariant-loop : goal.invariant-loop
+invariant-loop g l =
+    (0 < length l.buf)
+    × Got (g.R.Read.remaining l.initial.input) (g.R.Read.remaining l.input) l.fn.reader l.reader l.counter l.length

@@ -5,8 +5,8 @@ use Rattle.layout.specs.Reach.{last_place}
 use Rattle.whole.proofs.Turns.{Loop}
 use Rattle.whole.proofs.last_place.Given as goal
 
-abbrev pub invariant-loop-four : goal.invariant-loop-four
-invariant-loop-four l = Loop l.four l.shard (last_place l.tag l.shard) l.place
+abbrev pub invariant-loop-next : goal.invariant-loop-next
+invariant-loop-next l = Loop l.four l.shard (last_place l.tag l.shard) l.place
 
-abbrev pub decreases-loop-four : goal.decreases-loop-four
-decreases-loop-four l = length l.shard - l.place.at.0
+abbrev pub decreases-loop-next : goal.decreases-loop-next
+decreases-loop-next l = length l.shard - l.place.at.0

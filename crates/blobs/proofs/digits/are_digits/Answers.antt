@@ -1,15 +1,10 @@
--- `are_digits` meets its contract. The invariant: what was found so far and the test of what is left say together what the test of the whole does. Assumes nothing.
-use mathlib.Core.Path.{refl, sym, ◌∙◌}
-use native.Mathlib.Omega.{arith}
-use Rattle.blobs.proofs.Heads.{digits_more, digits_none}
+-- `are_digits` meets its contract: what the fold has found of the bytes so far is what the test of these says. Assumes nothing.
+use Rattle.std.proofs.Common.{rules, ◌≡◌, sym}
+use Rattle.std.proofs.lemmas.Fn.{fold_over, fronts, slice_gives}
+use Rattle.blobs.specs.Blobs.{are_digits}
+use Rattle.blobs.proofs.Heads.{digits_none, digits_push}
 use Rattle.blobs.proofs.digits.are_digits.Goals as goal
 
-pub loop-i-init : goal.loop-i-init
-loop-i-init c = (omega arith, refl)
-
-pub loop-i-preserved : goal.loop-i-preserved
-loop-i-preserved c =
-    (omega arith, rw c.is_digit-digits.ensures (c.loop-i.invariant.1 ∙ digits_more c.loop-i.digits c.args.s.now c.loop-i.i c.loop-i-test.true))
-
 pub returns : goal.returns
-returns c = sym (c.loop-i.invariant.1 ∙ digits_none _ _ _ c.loop-i-test.false)
+returns c =
+    fold_over fronts (λ y. y.now) _ (λ ys found. found ≡ are_digits ys) _ (λ ys a x b f' j k. search (rules, digits_push, j)) c.iter.result c.args.s.now _ c.fold.result (rw (sym c.iter.ensures.rest) (slice_gives c.iter.result)) digits_none c.fold.ensures.ran

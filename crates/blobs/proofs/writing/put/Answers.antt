@@ -4,4 +4,4 @@ use Rattle.blobs.proofs.writing.put.Goals as goal
 
 pub returns : goal.returns
 returns c =
-    six_stores _ c.requires.0 _ c.put_u32.ensures c.put_u16.ensures c.put_u64.ensures c.put_part.ensures c.put_zeros.ensures c.put_part-2.ensures
+    six_stores _ c.requires.0 _ c.write.ensures c.write-2.ensures c.write-3.ensures c.put_part.ensures c.put_zeros.ensures c.put_part-2.ensures

@@ -1,20 +1,27 @@
 -- A call that takes nothing has refused, and one that takes something leaves the rest to be fed.
-use Rattle.std.proofs.Common.{arith}
+use Rattle.std.proofs.Common.{arith, rules, length-drop}
+use Rattle.std.proofs.lemmas.List.{take_rest}
 use Rattle.shardline.proofs.Feeding.{so_done, within, so_refused, so_on}
 use Rattle.shardline.proofs.feed.fed.Goals as goal
 
-pub returns-then-answer-eq0 : goal.returns-then-answer-eq0
-returns-then-answer-eq0 c =
-    so_refused c.loop-at.r c.args.piece.now c.loop-at.at c.step-step.result c.step-step.ensures c.args.reader c.loop-at.invariant.1 c.loop-at-test.true (omega (arith, c.if-answer-eq0.true))
+pub returns-then-step-eq0-clause-all : goal.returns-then-step-eq0-clause-all
+returns-then-step-eq0-clause-all c =
+    so_refused _ _ _ _ c.loop-rest.invariant _ c.step-step.ensures (search rules) c.if-step-eq0.true
 
-pub overflow_add-at : goal.overflow_add-at
-overflow_add-at c =
-    omega (arith, within c.loop-at.r c.args.piece.now c.loop-at.at c.step-step.result c.step-step.ensures)
+pub slice_bounds-rest-count : goal.slice_bounds-rest-count
+slice_bounds-rest-count c = within _ _ _ _ c.loop-rest.invariant _ c.step-step.ensures
 
-pub loop-at-preserved : goal.loop-at-preserved
-loop-at-preserved c =
-    (omega (arith, within c.loop-at.r c.args.piece.now c.loop-at.at c.step-step.result c.step-step.ensures), so_on c.loop-at.r c.args.piece.now c.loop-at.at c.step-step.result c.step-step.ensures c.args.reader c.loop-at.invariant.1 (λ i. omega (arith, c.type_inv.piece i)) (λ e. omega (arith, c.if-answer-eq0.false, e)))
+pub slice_bounds-rest-start : goal.slice_bounds-rest-start
+slice_bounds-rest-start c = within _ _ _ _ c.loop-rest.invariant _ c.step-step.ensures
 
-pub returns : goal.returns
-returns c =
-    so_done c.args.reader c.loop-at.r c.args.piece.now c.loop-at.at c.loop-at.invariant.1 c.loop-at-test.false
+pub loop-rest-smaller : goal.loop-rest-smaller
+loop-rest-smaller c =
+    let k = within _ _ _ _ c.loop-rest.invariant _ c.step-step.ensures in
+    simp (take_rest, length-drop) (grind (arith, k, c.if-step-eq0.false))
+
+pub loop-rest-preserved : goal.loop-rest-preserved
+loop-rest-preserved c =
+    so_on _ _ _ _ c.loop-rest.invariant _ c.step-step.ensures c.if-step-eq0.false
+
+pub returns-clause-all : goal.returns-clause-all
+returns-clause-all c = so_done _ _ _ _ c.loop-rest.invariant (search rules)

@@ -9,4 +9,4 @@ pub returns : goal.returns
 unfolding spell_footer spell_words spell_hash spell
 returns c =
     puts_then 192 _ 0 _ _ refl (puts_then 120 _ 0 _ _ refl (puts_then 72 _ 0 _ _ refl (puts_then 24 _ 0 _ _ refl (puts_then 16 _ 0 _ _ refl (puts_then 8 _ 0 _ _ refl
-    c.put_u64.ensures c.put_u64-2.ensures) c.put_u64-3.ensures) c.put_zeros.ensures) c.write.ensures) c.put_zeros-2.ensures) c.put_u64-4.ensures
+    c.write.ensures c.write-2.ensures) c.write-3.ensures) c.put_zeros.ensures) c.write-4.ensures) c.put_zeros-2.ensures) c.write-5.ensures

@@ -1,16 +1,12 @@
--- `put_zeros` meets its contract. The invariant: the stores still to make, from the buffer as it is, give what all of them give from the buffer as it came.
--- The measure is what is left. Assumes nothing.
-use mathlib.Core.Path.{sym, ◌∙◌}
-use native.Mathlib.Omega.{arith}
-use lib.ListN.{length-set}
-use Rattle.words.proofs.Stores.{fill_step, fill_done}
+-- `put_zeros` meets its contract: what a part of the buffer is filled with is a run of stores. Assumes nothing.
+use Rattle.std.proofs.Common.{◌+◌, ◌∙◌, ℕ, replicate, refl, ap, arith}
+use lib.ListN.{length-take, length-drop, length-replicate}
+use Rattle.words.proofs.Stores.{mid_puts}
 use Rattle.words.proofs.number.put_zeros.Goals as goal
 
-pub loop-left-preserved : goal.loop-left-preserved
-loop-left-preserved c =
-    let l = c.loop-left in
-    let t = c.loop-left-test.true in
-    (omega arith, (simp length-set l.invariant.1.0, sym (fill_step _ _ _ 0 t) ∙ l.invariant.1.1))
-
 pub returns : goal.returns
-returns c = sym (fill_done _ _ _ 0 c.loop-left-test.false) ∙ c.loop-left.invariant.1.1
+returns c =
+    let a = c.args in
+    mid_puts a.buf.now a.at (a.at + a.n) _ (replicate a.n 0)
+    (c.fill.ensures.after (λ y e. e) ∙ ap (λ (k : ℕ). replicate k 0) (simp (length-take, length-drop) (omega arith)))
+    (simp length-replicate refl) c.requires

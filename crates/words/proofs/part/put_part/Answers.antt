@@ -1,17 +1,9 @@
--- `put_part` meets its contract. The invariant: the stores still to make, from the buffer as it is, give what all of them give from the buffer as it came.
--- The measure is what is left. Assumes nothing.
-use mathlib.Core.Path.{sym, ◌∙◌}
-use native.Mathlib.Omega.{arith}
-use lib.ListN.{length-set}
-use Rattle.words.proofs.Stores.{part_step, part_done}
+-- `put_part` meets its contract: what is copied to a part of the buffer is a run of stores. Assumes nothing.
+use Rattle.std.proofs.Common.{◌+◌, length, refl, arith}
+use Rattle.words.proofs.Stores.{mid_puts}
 use Rattle.words.proofs.part.put_part.Goals as goal
-
-pub loop-left-preserved : goal.loop-left-preserved
-loop-left-preserved c =
-    let l = c.loop-left in
-    let t = c.loop-left-test.true in
-    (omega arith, (omega arith, (simp length-set l.invariant.1.1.0, sym (part_step _ _ _ c.args.s.now l.j t (omega arith)) ∙ l.invariant.1.1.1)))
 
 pub returns : goal.returns
 returns c =
-    sym (part_done _ _ _ c.args.s.now c.loop-left.j c.loop-left-test.false) ∙ c.loop-left.invariant.1.1.1
+    let a = c.args in
+    mid_puts a.buf.now a.at (a.at + length a.part.now) _ a.part.now c.copy_from_slice.ensures.after refl (omega arith)

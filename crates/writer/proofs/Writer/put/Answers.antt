@@ -6,13 +6,13 @@ use Rattle.writer.proofs.Writer.put.Goals as goal
 
 pub spell-requires : goal.spell-requires
 spell-requires c =
-    (c.words-words.ensures, (room_for _ _ _ _ (sym c.judge-answer.ensures ∙ c.in-Wrote.is)).0)
+    (c.words-words.ensures, (room_for _ _ _ _ (sym c.judge-answer.ensures ∙ c.in-Ok.is)).0)
 
-pub returns-in-Wrote : goal.returns-in-Wrote
+pub returns-in-Ok : goal.returns-in-Ok
 unfolding written_of
-returns-in-Wrote c =
-    let e = sym c.judge-answer.ensures ∙ c.in-Wrote.is in (rw (c.past.ensures, c.words-words.ensures, e), c.spell.ensures ∙ put_start _ _ _ _ e)
+returns-in-Ok c =
+    let e = sym c.judge-answer.ensures ∙ c.in-Ok.is in (rw (c.next.ensures, c.words-words.ensures, c.judge-answer.ensures, e), c.spell.ensures ∙ put_start _ _ _ _ e)
 
-pub returns-in-Refused : goal.returns-in-Refused
+pub returns-in-Err : goal.returns-in-Err
 unfolding written_of
-returns-in-Refused c = let e = sym c.judge-answer.ensures ∙ c.in-Refused.is in (rw e, put_kept _ _ _ _ e)
+returns-in-Err c = let e = sym c.judge-answer.ensures ∙ c.in-Err.is in (rw (c.judge-answer.ensures, e), put_kept _ _ _ _ e)

@@ -1,5 +1,0 @@
--- `stand_in` meets its contract: each number has its field. Assumes nothing.
-use Rattle.host.proofs.readers.stand_in.Goals as goal
-
-pub returns : goal.returns
-returns c = rw c.place_in.ensures

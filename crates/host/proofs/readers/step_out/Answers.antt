@@ -1,6 +1,0 @@
--- `step_out` meets its contract: number and position are those of what is said. Assumes nothing.
-use Rattle.host.proofs.readers.step_out.Goals as goal
-
-pub returns : goal.returns
-returns c =
-    rw (c.number.ensures, c.record_out.ensures, c.refusal-refusal.ensures)

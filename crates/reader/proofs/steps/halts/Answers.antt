@@ -1,9 +1,0 @@
--- `halts` meets its contract: the size decides, then the length. Assumes nothing.
-use borrow.Author.Tests.{eq-eqb, ne_eqb}
-use Rattle.reader.proofs.steps.halts.Goals as goal
-
-pub returns-then-size-eq0 : goal.returns-then-size-eq0
-returns-then-size-eq0 c = rw (eq-eqb _ _ c.if-size-eq0.true)
-
-pub returns-else-size-eq0 : goal.returns-else-size-eq0
-returns-else-size-eq0 c = rw (ne_eqb _ _ c.if-size-eq0.false)

@@ -1,9 +1,0 @@
--- `past_file_head` meets its contract: the hash tells a bookend from a head. Assumes nothing.
-use Rattle.std.proofs.Common.{sym, ◌∙◌}
-use Rattle.rules.proofs.Place.past_file_head.Goals as goal
-
-pub returns-then-is_ones : goal.returns-then-is_ones
-returns-then-is_ones c = rw (c.with_offset.ensures, sym c.is_ones.ensures ∙ c.if-is_ones.true)
-
-pub returns-else-is_ones : goal.returns-else-is_ones
-returns-else-is_ones c = rw (c.with_file.ensures, sym c.is_ones.ensures ∙ c.if-is_ones.false)

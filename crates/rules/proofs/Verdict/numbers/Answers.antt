@@ -1,8 +1,0 @@
--- `numbers` meets its contract: a verdict has two cases. Assumes nothing.
-use Rattle.rules.proofs.Verdict.numbers.Goals as goal
-
-pub returns-in-Accepted : goal.returns-in-Accepted
-returns-in-Accepted c = rw c.in-Accepted.is
-
-pub returns-in-Refused : goal.returns-in-Refused
-returns-in-Refused c = rw c.in-Refused.is

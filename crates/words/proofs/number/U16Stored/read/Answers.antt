@@ -1,0 +1,7 @@
+-- The 2 bytes read are those that `le_at 2` names. Assumes nothing.
+use Rattle.std.proofs.Common.{◌∙◌}
+use Rattle.words.proofs.Bytes.{from_bytes_2}
+use Rattle.words.proofs.number.U16Stored.read.Goals as goal
+
+pub returns : goal.returns
+returns c = c.from_le_bytes.ensures ∙ from_bytes_2 c.args.s.now c.args.at _ c.bytes_at.ensures
