@@ -6,8 +6,8 @@ use mathlib.Core.List.{List, ◌++◌}
 use Prim.Native.Nat.{ℕ, zero, suc, ◌+◌, ◌-◌, ◌≤◌, ◌<◌}
 use native.Mathlib.Nat.{sub-zero, zero-sub, suc-sub-suc}
 use native.Mathlib.Omega.{arith}
-use lib.ListN.{length, take, drop, replicate, length-append, length-take, take-append-drop}
-use lib.Seq.{paste, take-append_seam, drop-append-add, length-take-le}
+use lib.ListN.{length, take, drop, replicate, length-append, length-take}
+use lib.Seq.{paste, take_all, take-append_seam, drop-append-add, length-take-le}
 use Rattle.words.specs.Checks.{pick}
 use Rattle.words.specs.Record.{words_at, footer_at}
 use Rattle.words.specs.declared.Tag.{Tag}
@@ -30,11 +30,15 @@ put_carry h piece n l k =
     let e : 200 - length h - n ≡ 200 - length (h ++ take n piece) = simp (length-append, length-take) (omega arith) in
     rw (take-append_seam, drop-append-add, drop_zeros, e)
 
--- where nothing is carried, a record can be read straight from the piece
-pub words_pasted : (carry piece : List ℕ) → 48 ≤ length piece → words_at piece 0 ≡ words_at (paste carry 0 piece 48) 0
-words_pasted carry piece h =
-    let l : 0 + 48 ≤ length (take 48 piece) = simp length-take (omega arith) in
-    ap (λ (s : List ℕ). words_at s 0) (sym (take-append-drop 48 piece)) ∙ words_front (take 48 piece) (drop 48 piece) 0 l ∙ sym (words_front (take 48 piece) (drop 48 carry) 0 l)
+-- a front part of a piece, put behind h bytes
+pub paste_part : (carry piece : List ℕ) (h n : ℕ) → n ≤ length piece → paste carry h (take n piece) (length (take n piece)) ≡ paste carry h piece n
+paste_part carry piece h n l =
+    let e : length (take n piece) ≡ n = length-take-le n piece l in
+    rw (e, take_all n (take n piece) (omega (arith, e)))
+
+-- where nothing is carried, a record can be read straight from the part behind the carry
+pub words_pasted : (carry part : List ℕ) (h : ℕ) → h ≡ 0 → 48 ≤ length part → words_at part 0 ≡ words_at (paste carry h part (length part)) 0
+words_pasted carry part h z l = rw (z, take_all (length part) part (omega arith)) (sym (words_front part (drop (0 + length part) carry) 0 l))
 
 -- ## A record is judged by its own bytes
 

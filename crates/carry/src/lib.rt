@@ -1,5 +1,5 @@
-// The bytes of the record due: how many are missing, and what the whole record says, from the carry and the piece behind it. Inner functions, which
-// ask what the reader and `whole` prove of each call.
+// The bytes of the record due, those in the carry and those behind them: the carry filled, and what the whole record says. Inner functions, which ask what
+// the reader and `whole` prove of each call. What they take one by one is together in `Stand`, which is the reader's, as its methods are.
 #![tactic(auto)]
 
 ghost use Rattle.std.specs.Prelude.{◌≡◌, ◌-◌, ◌≤◌, ◌<◌, length};
@@ -11,54 +11,47 @@ ghost use Rattle.rules.specs.Rules.{size_of, words_in, fault_in};
 use rules::Place;
 use words::{Footer, Stored, Tag, Words};
 
-// How many bytes of a record are missing.
-pub fn missing(size: usize, have: usize) -> usize
-    ensures { result ≡ size - have }
+// The carry with the bytes of a part behind what it has.
+pub fn filled(mut carry: [u8; 200], have: usize, part: &[u8]) -> [u8; 200]
+    requires { length part.now ≤ 200 - have }
+    ensures { result ≡ paste carry have part.now (length part.now) }
 {
-    size.saturating_sub(have)
-}
-
-// The carry with n bytes of the piece behind what it has.
-pub fn filled(mut carry: [u8; 200], have: usize, piece: &[u8], n: usize) -> [u8; 200]
-    requires { (n ≤ 200 - have) × (n ≤ length piece.now) }
-    ensures { result ≡ paste carry have piece.now n }
-{
-    if 0 < n {
-        carry[have..have + n].copy_from_slice(&piece[..n]);
+    if !part.is_empty() {
+        carry[have..have + part.len()].copy_from_slice(part);
     }
     carry
 }
 
-// What the bytes in the carry and the first of the piece say of the record due: its numbers if it is good, else the number of its refusal.
+// What the bytes in the carry and those that it lacks say of the record due: its numbers if it is good, else the number of its refusal.
 pub fn hear(
     carry: &[u8; 200],
     have: usize,
     tag: Tag,
     place: Place,
-    piece: &[u8],
-    lacks: usize,
+    rest: &[u8],
 ) -> Result<Words, u32>
-    requires { (lacks ≡ size_of place - have) × (lacks ≤ length piece.now) × (0 < size_of place) }
-    ensures { result ≡ if_fine (fault_in tag place (paste carry.now have piece.now lacks)) (words_in place (paste carry.now have piece.now lacks)) }
+    requires { (length rest.now ≡ size_of place - have) × (0 < size_of place) }
+    ensures { result ≡ if_fine (fault_in tag place (paste carry.now have rest.now (length rest.now))) (words_in place (paste carry.now have rest.now (length rest.now))) }
 {
     if place.due.footer_due() {
-        let footer = Footer::read(&filled(*carry, have, piece, lacks), 0);
+        let footer = Footer::read(&filled(*carry, have, rest), 0);
         place.check_footer(footer)?;
         return Ok(footer.words);
     }
-    let words = words_of(carry, have, piece, lacks);
+    let words = words_of(carry, have, rest);
     place.check(tag, words)?;
     Ok(words)
 }
 
-// The numbers of a record of 48 bytes, straight from the piece where nothing is carried.
-fn words_of(carry: &[u8; 200], have: usize, piece: &[u8], lacks: usize) -> Words
-    requires { (lacks ≡ 48 - have) × (lacks ≤ length piece.now) }
-    ensures { result ≡ words_at (paste carry.now have piece.now lacks) 0 }
+// The numbers of a record of 48 bytes, straight from the part behind the carry where nothing is carried.
+#[tactic(auto, using(crate::proofs::Carry::words_pasted))]
+fn words_of(carry: &[u8; 200], have: usize, rest: &[u8]) -> Words
+    requires { length rest.now ≡ 48 - have }
+    ensures { result ≡ words_at (paste carry.now have rest.now (length rest.now)) 0 }
 {
     if have == 0 {
-        Words::read(piece, 0)
+        Words::read(rest, 0)
     } else {
-        Words::read(&filled(*carry, have, piece, lacks), 0)
+        Words::read(&filled(*carry, have, rest), 0)
     }
 }

@@ -3,7 +3,7 @@
 use Rattle.std.specs.Prelude.{Option, Some, None, Result, Ok, Err}
 use mathlib.Core.Path.{◌≡◌, refl, sym, ap, ◌∙◌}
 use mathlib.Core.Logic.{◌⊎◌, inl, inr}
-use mathlib.Core.Bool.{Bool, true, false}
+use mathlib.Core.Bool.{true, false}
 use mathlib.Core.List.{List, []}
 use Prim.Native.Nat.{ℕ, zero, suc, ◌+◌, ◌-◌, ◌*◌, ◌/◌, ◌≤◌, ◌<◌}
 use native.Mathlib.Nat.{not-suc-le-zero, sub-zero}
@@ -20,7 +20,7 @@ use Rattle.rules.specs.Held.{held}
 use Rattle.rules.specs.Verdicts.{refusal_at}
 use Rattle.rules.specs.declared.Place.{Place}
 use Rattle.rules.specs.declared.Record.{Record}
-use Rattle.carry.proofs.Carry.{words_any, fault_any}
+use Rattle.carry.proofs.Carry.{paste_part, words_any, fault_any}
 use Rattle.reader.specs.Stream.{passed_by, failed_by, settled, said_at, lacking, heard_in, lent, halt_by, step_of}
 use Rattle.reader.specs.Rows.{row_in, goes_on, answered, ended_by, Reading, next_step, reads_on, read_for}
 use Rattle.reader.specs.Readings.{record_by, handed_out}
@@ -85,34 +85,32 @@ abbrev pub seen_in : Result Words ℕ → ℕ → Result (Option Whole) ℕ
 seen_in (Ok w) lacks = Ok (Some (record { words = w; lacks = lacks }))
 seen_in (Err number) lacks = Err number
 
-module _ (s : Stand) (rest : List ℕ) {size lacks : ℕ} {t : Bool} (e : size ≡ size_of s.place) (m : lacks ≡ size - s.have) (h : t ≡ halt_by size lacks (length rest)) where
-  lack : lacks ≡ lacking s
-  lack = rw e at m
+module _ (s : Stand) (rest : List ℕ) (h : halt_by (size_of s.place) (lacking s) (length rest) ≡ false) where
+  there : (0 < size_of s.place) × (lacking s ≤ length rest)
+  there = whole_there (size_of s.place) (lacking s) (length rest) h
 
-  pub none_there : t ≡ true → halt_by (size_of s.place) (lacking s) (length rest) ≡ true
-  none_there i = rw (← lack, ← e) (sym h ∙ i)
+  -- where nothing of the carry is looked at, the piece alone is judged
+  heard_same : s.have ≡ 0 → (c c' : List ℕ) → heard_in s (paste c s.have rest (lacking s)) ≡ heard_in s (paste c' s.have rest (lacking s))
+  heard_same z c c' =
+      let q : lacking s ≡ size_of s.place = rw (z, sub-zero) in
+      let l : size_of s.place ≤ length rest = rw q at there.1 in
+      rw (z, sub-zero, words_any s.place there.0 rest l c c', fault_any s.place there.0 rest l s.tag c c')
 
-  module _ (i : t ≡ false) where
-    there : (lacks ≡ lacking s) × (0 < size_of s.place) × (lacks ≤ length rest)
-    there = let w = whole_there size lacks (length rest) (sym h ∙ i) in (lack, rw e at w.0, w.1)
+  -- what is heard of the part of the piece that is missing
+  by_part : (carry : List ℕ) {x : Result Words ℕ} {n : ℕ} → n ≡ lacking s → x ≡ heard_in s (paste carry s.have (take n rest) (length (take n rest)))
+      → x ≡ heard_in s (paste carry s.have rest (lacking s))
+  by_part carry e w = rw (e, paste_part carry rest s.have (lacking s) there.1) at w
 
-    -- where nothing of the carry is looked at, the piece alone is judged
-    heard_same : s.have ≡ 0 → (c c' : List ℕ) → heard_in s (paste c s.have rest lacks) ≡ heard_in s (paste c' s.have rest lacks)
-    heard_same z c c' =
-        let q : lacks ≡ size_of s.place = there.0 ∙ rw (z, sub-zero) in
-        let l : size_of s.place ≤ length rest = rw q at there.2 in
-        rw (z, q, words_any s.place there.1 rest l c c', fault_any s.place there.1 rest l s.tag c c')
+  module _ {carry : List ℕ} {x : Result Words ℕ} {n : ℕ} (e : n ≡ lacking s) (w : x ≡ heard_in s (paste carry s.have (take n rest) (length (take n rest)))) where
+    settles : (other : List ℕ) → SameFor s.have carry other → step_of (lent s other) rest ≡ settled s x (lacking s)
+    settles other (inl z) = step_settled (lent s other) rest there.0 refl there.1 (by_part carry e w ∙ heard_same z carry other)
+    settles other (inr q) = step_settled (lent s other) rest there.0 refl there.1 (by_part carry e w ∙ ap (λ (c : List ℕ). heard_in s (paste c s.have rest (lacking s))) q)
 
-    module _ {carry : List ℕ} {x : Result Words ℕ} (u : x ≡ heard_in s (paste carry s.have rest lacks)) where
-      settles : (other : List ℕ) → SameFor s.have carry other → step_of (lent s other) rest ≡ settled s x lacks
-      settles other (inl z) = step_settled (lent s other) rest there.1 there.0 there.2 (u ∙ heard_same z carry other)
-      settles other (inr q) = step_settled (lent s other) rest there.1 there.0 there.2 (u ∙ ap (λ (c : List ℕ). heard_in s (paste c s.have rest lacks)) q)
-
-      pub whole_foretells : (other : List ℕ) → SameFor s.have carry other → Foretells (lent s other) rest (seen_in x lacks)
-      whole_foretells other f =
-          let q = settles other f in
-          let w = there in
-          grind arith
+    pub whole_foretells : (other : List ℕ) → SameFor s.have carry other → Foretells (lent s other) rest (seen_in x (lacking s))
+    whole_foretells other f =
+        let q = settles other f in
+        let k = there in
+        grind arith
 
 -- ## The loop
 

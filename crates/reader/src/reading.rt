@@ -7,9 +7,8 @@ ghost use Rattle.reader.specs.declared.Ended.TheVariants.{TableFull};
 ghost use Rattle.reader.specs.Looks.{SameFor, carry_after, ended_with, Foretells};
 
 use crate::rows::{ROW, put_row};
-use crate::steps::halts;
 use crate::{Call, Ended, Read, Stand};
-use carry::{hear, missing};
+use carry::hear;
 use words::{Refusal, Words};
 
 // A good record that is there: its words, and the bytes that it takes of the piece.
@@ -58,8 +57,7 @@ impl Stand {
                 }
                 Err(number) => {
                     *carry = [0; 200];
-                    let lacks = missing(self.place.due.size(), self.have);
-                    return ended(self.failed(number, lacks), taken, count);
+                    return ended(self.failed(number, self.lacks()), taken, count);
                 }
             };
             put_row(table, count, self.place.record(whole.words));
@@ -80,13 +78,20 @@ impl Stand {
     fn look(self, carry: &[u8; 200], rest: &[u8]) -> Result<Option<Whole>, u32>
         ensures { (other : List ℕ) → SameFor self.have carry.now other → Foretells (lent self other) rest.now result }
     {
-        let size = self.place.due.size();
-        let lacks = missing(size, self.have);
-        if halts(size, lacks, rest.len()) {
+        if self.halts(rest.len()) {
             return Ok(None);
         }
-        let words = hear(carry, self.have, self.tag, self.place, rest, lacks)?;
-        Ok(Some(Whole { words, lacks }))
+        let words = hear(
+            carry,
+            self.have,
+            self.tag,
+            self.place,
+            &rest[..self.lacks()],
+        )?;
+        Ok(Some(Whole {
+            words,
+            lacks: self.lacks(),
+        }))
     }
 
     // Why no more is read where no row is left: the table is full, unless there was a refusal.

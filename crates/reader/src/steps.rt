@@ -1,21 +1,14 @@
 // One call of the reader: it takes at most what is missing from the record due, and a record is judged once all its bytes are there. The carry is lent to the
 // call, which leaves it clean: the bytes so far of the record due, and zeros.
-ghost use Rattle.std.specs.Prelude.{◌≡◌, true, ◌-◌, ◌<◌, length};
+ghost use Rattle.std.specs.Prelude.{◌≡◌, true, ◌<◌, length};
 ghost use Rattle.rules.specs.Rules.{size_of};
-ghost use Rattle.reader.specs.Stream.{fresh, lent, call_of, passed_by, failed_by, kept, stopped, halt_by, step_of, verdict_of};
+ghost use Rattle.reader.specs.Stream.{fresh, lent, call_of, passed_by, failed_by, kept, stopped, lacking, halt_by, step_of, verdict_of};
 
 use crate::{Answer, Call, Reader, Stand, Step};
-use carry::{filled, hear, missing};
+use carry::{filled, hear};
 use rules::Verdict;
 use whole::start_for;
 use words::{Refusal, Tag, Words};
-
-// Whether nothing is due, or less is left of the piece than the record due lacks.
-pub(crate) fn halts(size: usize, lacks: usize, left: usize) -> bool
-    ensures { result ≡ halt_by size lacks left }
-{
-    size == 0 || left < lacks
-}
 
 impl Reader {
     // A fresh reader.
@@ -60,17 +53,30 @@ impl Stand {
     pub fn step(self, carry: &mut [u8; 200], piece: &[u8]) -> Call
         ensures { (result ≡ call_of (step_of (lent self carry.old) piece.now)) × (carry.new ≡ (step_of (lent self carry.old) piece.now).reader.carry) }
     {
-        let size = self.place.due.size();
-        let lacks = missing(size, self.have);
-        if halts(size, lacks, piece.len()) {
+        if self.halts(piece.len()) {
             return self.halt(carry, piece);
         }
-        let heard = hear(carry, self.have, self.tag, self.place, piece, lacks);
+        let lacks = self.lacks();
+        let heard = hear(carry, self.have, self.tag, self.place, &piece[..lacks]);
         *carry = [0; 200];
         match heard {
             Ok(words) => self.passed(words, lacks),
             Err(number) => self.failed(number, lacks),
         }
+    }
+
+    // How many bytes of the record due are missing.
+    pub(crate) fn lacks(self) -> usize
+        ensures { result ≡ lacking self }
+    {
+        self.place.due.size().saturating_sub(self.have)
+    }
+
+    // Whether nothing is due, or less is left of the piece than the record due lacks.
+    pub(crate) fn halts(self, left: usize) -> bool
+        ensures { result ≡ halt_by (size_of self.place) (lacking self) left }
+    {
+        self.place.due.size() == 0 || left < self.lacks()
     }
 
     // A good record is handed out, and reading goes on behind it with nothing carried.
@@ -110,7 +116,7 @@ impl Stand {
     // A call that finds no whole record.
     #[tactic(auto, unfolding(crate::specs::Stream::step_of))]
     pub(crate) fn halt(self, carry: &mut [u8; 200], piece: &[u8]) -> Call
-        requires { halt_by (size_of self.place) (size_of self.place - self.have) (length piece.now) ≡ true }
+        requires { halt_by (size_of self.place) (lacking self) (length piece.now) ≡ true }
         ensures { (result ≡ call_of (step_of (lent self carry.old) piece.now)) × (carry.new ≡ (step_of (lent self carry.old) piece.now).reader.carry) }
     {
         if self.place.due.size() == 0 {
@@ -122,11 +128,11 @@ impl Stand {
 
     // Fewer bytes than are missing: they are kept.
     fn keep(self, carry: &mut [u8; 200], piece: &[u8]) -> Call
-        requires { length piece.now < size_of self.place - self.have }
+        requires { length piece.now < lacking self }
         ensures { (result ≡ call_of (kept (lent self carry.old) piece.now)) × (carry.new ≡ (kept (lent self carry.old) piece.now).reader.carry) }
     {
         let taken = piece.len();
-        *carry = filled(*carry, self.have, piece, taken);
+        *carry = filled(*carry, self.have, piece);
         Call {
             stand: Stand {
                 have: self.have + taken,

@@ -5,8 +5,9 @@ use Rattle.words.specs.Le.{Bytes}
 use Rattle.layout.specs.Scan.{found_in}
 use Rattle.reader.specs.Readings.{Begun, fed_one}
 use Rattle.reader.specs.declared.Reader.{Reader}
+use Rattle.text.specs.Text.{line_of}
 use Rattle.text.specs.declared.input.ReadFailed.{ReadFailed}
-use Rattle.shardline.specs.Report.{line_of, report_of}
+use Rattle.shardline.specs.Report.{report_of}
 
 -- all the bytes of an input, of which no run has so many, were fed to a reader; or a read failed behind some of them
 abbrev pub ReadAll : Option (List ℕ) → Reader → Result Reader ReadFailed → Type 0

@@ -1,19 +1,16 @@
 -- WHAT IS WRITTEN for a verdict: seven lines, or one with the refusal.
-use Rattle.std.specs.Prelude.{ℕ, List, ◌++◌, Bool, true, false, codes, decimal, Ok, Err}
+use Rattle.std.specs.Prelude.{ℕ, List, ◌++◌, Bool, true, false, codes, Ok, Err}
 use Rattle.words.specs.Refusals.{refusal_text}
 use Rattle.rules.specs.declared.Summary.{Summary}
 use Rattle.rules.specs.Verdicts.{Verdict}
-
--- a name, a number and a line end
-abbrev pub line_of : List ℕ → ℕ → List ℕ
-line_of name n = name ++ (decimal n ++ codes "\n")
+use Rattle.text.specs.Text.{line_of}
 
 abbrev pub footer_line : Bool → List ℕ
 footer_line true = codes "footer yes\n"
 footer_line false = codes "footer no\n"
 
-abbrev pub summary_of : Summary → List ℕ
-summary_of s =
+abbrev pub summary_lines : Summary → List ℕ
+summary_lines s =
     line_of (codes "files ") s.totals.files
     ++ (line_of (codes "segments ") s.totals.segments
     ++ (line_of (codes "xorbs ") s.totals.xorbs
@@ -23,5 +20,5 @@ summary_of s =
     ++ line_of (codes "ok ") s.length)))))
 
 abbrev pub report_of : Verdict → List ℕ
-report_of (Ok summary) = summary_of summary
+report_of (Ok summary) = summary_lines summary
 report_of (Err refusal) = refusal_text refusal ++ codes "\n"

@@ -6,7 +6,7 @@ ghost use Rattle.std.specs.Prelude.{◌≡◌, List, ℕ, OnOk};
 ghost use Rattle.std.specs.Io.KnownBytes.{Appends};
 ghost use Rattle.reader.specs.Stream.{fresh};
 ghost use Rattle.shardline.specs.Reads.{ReadAll, Reports};
-ghost use Rattle.shardline.specs.Report.{report_of, summary_of};
+ghost use Rattle.shardline.specs.Report.{report_of, summary_lines};
 
 use feed::fed;
 use reader::Reader;
@@ -59,7 +59,7 @@ fn read_all<R: Read>(input: &mut R, reader: Reader) -> Result<Reader, ReadFailed
 }
 
 fn accepted<W: Write>(out: &mut W, summary: Summary) -> io::Result<()>
-    ensures { OnOk result (Appends (W.contents out.old) (W.contents out.new) (summary_of summary)) }
+    ensures { OnOk result (Appends (W.contents out.old) (W.contents out.new) (summary_lines summary)) }
 {
     let totals = summary.totals;
     writeln!(out, "files {}", totals.files)?;

@@ -82,13 +82,18 @@ heard_fine p (suc n) w = rw (ne_eqb (suc n) 0 (λ x. omega arith))
 
 -- a record that is judged where it stands, in front of what an empty carry has
 module _ (tag : Tag) (s : List ℕ) (p : Place) (k : 0 < size_of p) (l : size_of p ≤ left_at s p) where
+  -- so many of the bytes left
+  abbrev part : ℕ → List ℕ
+  part m = take m (take (left_at s p) (drop p.at.0 s))
+
   pub turn_heard : {m : ℕ} {r : Result Words ℕ} → m ≡ size_of p
-      → r ≡ if_fine (fault_in tag p (paste (replicate 200 0) 0 (take (left_at s p) (drop p.at.0 s)) m)) (words_in p (paste (replicate 200 0) 0 (take (left_at s p) (drop p.at.0 s)) m))
+      → r ≡ if_fine (fault_in tag p (paste (replicate 200 0) 0 (part m) (length (part m)))) (words_in p (paste (replicate 200 0) 0 (part m) (length (part m))))
       → heard p r ≡ turn_of tag s p
   turn_heard e u =
       let h : length (drop p.at.0 s) ≤ left_at s p = simp length-drop (omega arith) in
       let q : length (record_at s p) ≡ size_of p = length-take-le (size_of p) (drop p.at.0 s) (rw length-drop l) in
-      rw (u, take_all (left_at s p) (drop p.at.0 s) h, e, words_own p (record_at s p) _ k q, fault_own p (record_at s p) _ k q tag, turn_full tag s p k l) (heard_fine p _ _)
+      let t = take_all (length (record_at s p)) (record_at s p) (omega arith) in
+      rw (u, take_all (left_at s p) (drop p.at.0 s) h, e, t, words_own p (record_at s p) _ k q, fault_own p (record_at s p) _ k q tag, turn_full tag s p k l) (heard_fine p _ _)
 
 -- ## What the turns come to
 

@@ -52,7 +52,7 @@ fn turn_at(four: Tag, shard: &[u8], place: Place) -> ControlFlow<Place, Place>
     if left.len() < size {
         return ControlFlow::Break(place);
     }
-    match hear(&[0; 200], 0, four, place, left, size) {
+    match hear(&[0; 200], 0, four, place, &left[..size]) {
         Ok(words) => ControlFlow::Continue(place.next(words)),
         Err(number) => ControlFlow::Break(place.refuse(number)),
     }

@@ -14,7 +14,7 @@ use Rattle.layout.specs.Quay.{tag, hash, row, header, bookend, footer, accepted,
 use Rattle.layout.specs.Scan.{found_in, scan}
 use Rattle.layout.specs.Reach.{last_place}
 use Rattle.whole.specs.Turns.{start_for}
-use Rattle.reader.specs.Stream.{fresh, passed_by, failed_by, stopped, step_of, verdict_of}
+use Rattle.reader.specs.Stream.{fresh, passed_by, failed_by, stopped, lacking, step_of, verdict_of}
 use Rattle.reader.specs.Rows.{Reading, reads_on, read_for}
 use Rattle.reader.specs.Readings.{offers, fed_one}
 use Rattle.reader.specs.declared.Reader.{Reader}
@@ -105,6 +105,9 @@ wrongs =
     ∷ ((start_for tag_short).due not due.Header by due_told)
     -- 3 for 2
     ∷ ((start_for tag_short).due not due.Refused 3 by due_told)
+    -- ## `Stand::lacks`
+    -- what the carry has is not taken off
+    ∷ (lacking in_segment.stand not 48 by number)
     -- ## `Stand::passed`, `Stand::failed` and `Stand::stop`, of which a call is made
     -- a faulty record handed out
     ∷ ((failed_by (reader at_segment).stand 10 48).answer.found not segment_found by found_told)

@@ -37,8 +37,6 @@ wrongs =
     ∷ (is_ones (ones64 ∷ ones64 ∷ ones64 ∷ 0 ∷ []) not true by truth)
     -- `is_ones`: a bit short of all ones
     ∷ (is_ones ((ones64 - 1) ∷ ones64 ∷ ones64 ∷ ones64 ∷ []) not true by truth)
-    -- `missing`: what the carry has is not taken off
-    ∷ (48 - 10 not 48 by number)
     -- `hear`: a byte in the carry is passed over
     ∷ ((words_in at_segment (paste (take 1 good_segment ++ zeros 199) 1 (drop 1 good_segment) 47)).hash not (words_in at_segment (drop 1 good_segment ++ zeros 1)).hash by numbers)
     ∷ []

@@ -32,7 +32,7 @@ pub returns-in-Err : goal.returns-in-Err
 returns-in-Err c =
     let l = c.loop-count in
     let f = rw c.in-Err.is at (looked l.invariant.1 l.invariant.0 c.look.result c.look.ensures) in
-    rw (over_failed l.invariant.1 c.loop-count-test.true c.in-Err.number f) (rw (c.ended-in-Err.ensures, c.failed.ensures, c.missing-lacks.ensures, c.size.ensures), refl, refl)
+    rw (over_failed l.invariant.1 c.loop-count-test.true c.in-Err.number f) (rw (c.ended-in-Err.ensures, c.failed.ensures, c.lacks.ensures), refl, refl)
 
 pub overflow_add-taken : goal.overflow_add-taken
 overflow_add-taken c =
