@@ -32,7 +32,7 @@ fn put(out: &mut [u8], digits: &[u8], data: &[u8])
     head::MAGIC.write(out, 0);
     head::VERSION.write(out, 4);
     (data.len() as u64).write(out, 6);
-    put_part(out, head::DIGITS, digits);
+    out[head::DIGITS..head::RESERVED].copy_from_slice(digits);
     put_zeros(out, head::RESERVED, 32);
     put_part(out, head::SIZE, data);
 }

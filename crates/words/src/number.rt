@@ -3,7 +3,6 @@ ghost use Rattle.std.specs.Prelude.{◌≡◌, ◌≤◌, ◌+◌, length, take,
 ghost use Rattle.words.specs.Le.{le_at, puts, spell, zeros_at, long, low, high};
 
 use crate::Stored;
-use crate::part::put_part;
 
 // The N bytes from a position on.
 fn bytes_at<const N: usize>(s: &[u8], at: usize) -> [u8; N]
@@ -13,6 +12,14 @@ fn bytes_at<const N: usize>(s: &[u8], at: usize) -> [u8; N]
     let mut bytes = [0; N];
     bytes.copy_from_slice(&s[at..at + N]);
     bytes
+}
+
+// N bytes, stored from a position on.
+fn put_bytes<const N: usize>(buf: &mut [u8], at: usize, bytes: [u8; N])
+    requires { at + N ≤ length buf.old }
+    ensures { buf.new ≡ puts buf.old at bytes.entry }
+{
+    buf[at..at + N].copy_from_slice(&bytes);
 }
 
 impl Stored for u16 {
@@ -27,7 +34,7 @@ impl Stored for u16 {
     }
 
     fn write(self, buf: &mut [u8], at: usize) {
-        put_part(buf, at, &self.to_le_bytes());
+        put_bytes(buf, at, self.to_le_bytes());
     }
 }
 
@@ -43,7 +50,7 @@ impl Stored for u32 {
     }
 
     fn write(self, buf: &mut [u8], at: usize) {
-        put_part(buf, at, &self.to_le_bytes());
+        put_bytes(buf, at, self.to_le_bytes());
     }
 }
 
@@ -59,7 +66,7 @@ impl Stored for u64 {
     }
 
     fn write(self, buf: &mut [u8], at: usize) {
-        put_part(buf, at, &self.to_le_bytes());
+        put_bytes(buf, at, self.to_le_bytes());
     }
 }
 

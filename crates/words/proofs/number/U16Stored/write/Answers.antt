@@ -5,4 +5,4 @@ use Rattle.words.proofs.Bytes.{to_bytes_2}
 use Rattle.words.proofs.number.U16Stored.write.Goals as goal
 
 pub returns : goal.returns
-returns c = c.put_part.ensures ∙ ap (puts c.args.buf.now c.args.at) (c.to_le_bytes.ensures ∙ to_bytes_2 c.args.self)
+returns c = c.put_bytes.ensures ∙ ap (puts c.args.buf.now c.args.at) (c.to_le_bytes.ensures ∙ to_bytes_2 c.args.self)
