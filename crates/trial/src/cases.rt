@@ -1,5 +1,5 @@
 // Cases on an input, part by part: a part says its length first, in one byte or in four. A read that fails is taken for the end of the input.
-ghost use Rattle.std.specs.Prelude.{◌≤◌};
+ghost use Rattle.std.specs.Prelude.{◌≡◌, ◌<◌, ◌≤◌, length, IfOk};
 
 use std::alloc::{AllocError, Global};
 use std::io;
@@ -45,23 +45,33 @@ impl<R: Read> Cases<R> {
     }
 
     // The first part of a case, whose length is one byte.
-    pub fn first(&mut self) -> Result<Vec<u8>, CaseError> {
-        let length = self.length(1).ok_or(CaseError::End)?;
-        self.part(length)
+    pub fn first(&mut self) -> Result<Vec<u8>, CaseError>
+        ensures { IfOk result (λ part. length part.items < 256) }
+    {
+        let [length] = self.bytes::<1>().ok_or(CaseError::End)?;
+        self.part(usize::from(length))
     }
 
     // A part whose length is one byte.
-    pub fn short(&mut self) -> Result<Vec<u8>, CaseError> {
-        let length = self.length(1).ok_or(CaseError::Broken)?;
-        self.part(length)
+    pub fn short(&mut self) -> Result<Vec<u8>, CaseError>
+        ensures { IfOk result (λ part. length part.items < 256) }
+    {
+        let [length] = self.bytes::<1>().ok_or(CaseError::Broken)?;
+        self.part(usize::from(length))
     }
 
     // A part whose length is four bytes, and at most so many.
-    pub fn long(&mut self, most: usize) -> Result<Vec<u8>, CaseError> {
-        match self.length(4) {
-            Some(length) if length <= most => self.part(length),
-            _ => Err(CaseError::Broken),
+    pub fn long(&mut self, most: usize) -> Result<Vec<u8>, CaseError>
+        ensures { IfOk result (λ part. length part.items ≤ most) }
+    {
+        let length = self
+            .bytes()
+            .map(u32::from_le_bytes)
+            .ok_or(CaseError::Broken)? as usize;
+        if length > most {
+            return Err(CaseError::Broken);
         }
+        self.part(length)
     }
 
     // A part of just so many bytes, whose length is one byte.
@@ -70,21 +80,22 @@ impl<R: Read> Cases<R> {
         <[u8; N]>::try_from(part.as_slice()).map_err(|_| CaseError::Broken)
     }
 
-    // The number in the next bytes, so many of them, the lowest first; none where the input ends before.
-    fn length(&mut self, width: usize) -> Option<usize>
-        requires { width ≤ 4 }
-    {
-        let mut bytes = [0u8; 4];
-        match read_full(&mut self.input, &mut bytes[..width]) {
-            Ok(size) if size == width => Some(u32::from_le_bytes(bytes) as usize),
+    // The next N bytes; none where the input ends before.
+    fn bytes<const N: usize>(&mut self) -> Option<[u8; N]> {
+        let mut bytes = [0u8; N];
+        match read_full(&mut self.input, &mut bytes) {
+            Ok(size) if size == N => Some(bytes),
             _ => None,
         }
     }
 
-    fn part(&mut self, length: usize) -> Result<Vec<u8>, CaseError> {
-        let mut part = vec![in self.alloc; 0u8; length]?;
+    // A part of so many bytes.
+    fn part(&mut self, size: usize) -> Result<Vec<u8>, CaseError>
+        ensures { IfOk result (λ part. length part.items ≡ size) }
+    {
+        let mut part = vec![in self.alloc; 0u8; size]?;
         match read_full(&mut self.input, part.as_mut_slice()) {
-            Ok(size) if size == length => Ok(part),
+            Ok(n) if n == size => Ok(part),
             _ => Err(CaseError::Broken),
         }
     }

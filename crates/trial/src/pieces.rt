@@ -1,6 +1,6 @@
 // A shard read in pieces.
-ghost use Rattle.std.specs.Prelude.{◌<◌, length};
-ghost use Rattle.std.specs.Option.{IfSome};
+ghost use Rattle.std.specs.Prelude.{◌≡◌, ◌<◌, ◌≤◌, ◌++◌, length};
+ghost use Rattle.std.specs.Option.{IfSome, IsNone};
 ghost use Rattle.std.specs.Iterator.{at_most};
 
 use reader::Reader;
@@ -27,6 +27,10 @@ impl<'a, S: Copy + Into<usize>> Pieces<'a, S> {
 
 impl<'a, S: Copy + Into<usize>> Iterator for Pieces<'a, S> {
     type Item = &'a [u8];
+
+    // Some bytes of what is left, at least one, and all of them in the end.
+    ghost next_gives = { λ old piece new. IfSome piece (λ p. (0 < length p.now) × (p.now ++ new.rest.now ≡ old.rest.now))
+        × (IsNone piece → length old.rest.now ≤ 0) };
 
     ghost remaining = { λ s. at_most (length s.rest.now) };
 
