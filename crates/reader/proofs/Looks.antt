@@ -9,7 +9,7 @@ use Prim.Native.Nat.{ℕ, zero, suc, ◌+◌, ◌-◌, ◌*◌, ◌/◌, ◌≤�
 use native.Mathlib.Nat.{not-suc-le-zero, sub-zero}
 use native.Mathlib.Numerals.{sub-one}
 use native.Mathlib.Omega.{arith}
-use lib.ListN.{length, take, drop, length-drop}
+use lib.ListN.{length, take, drop, length-drop, replicate}
 use lib.Seq.{paste, take_all}
 use borrow.Author.Tests.{ne_eqb}
 use Rattle.words.specs.Le.{puts}
@@ -21,7 +21,8 @@ use Rattle.rules.specs.Verdicts.{refusal_at}
 use Rattle.rules.specs.declared.Place.{Place}
 use Rattle.rules.specs.declared.Record.{Record}
 use Rattle.carry.proofs.Carry.{paste_part, words_any, fault_any}
-use Rattle.reader.specs.Stream.{passed_by, failed_by, settled, said_at, lacking, heard_in, lent, halt_by, step_of}
+use Rattle.reader.specs.declared.Call.{Call}
+use Rattle.reader.specs.Stream.{passed_by, failed_by, settled, said_at, lacking, heard_in, lent, call_of, halt_by, step_of}
 use Rattle.reader.specs.Rows.{row_in, goes_on, answered, ended_by, Reading, next_step, reads_on, read_for}
 use Rattle.reader.specs.Readings.{record_by, handed_out}
 use Rattle.reader.specs.Looks.{Foretells, SameFor, carry_after, ended_with}
@@ -111,6 +112,11 @@ module _ (s : Stand) (rest : List ℕ) (h : halt_by (size_of s.place) (lacking s
         let q = settles other f in
         let k = there in
         grind arith
+
+  -- the call that a faulty record gets, behind which the carry is zero
+  pub step_failed : (carry : List ℕ) (n number : ℕ) (call : Call) → n ≡ lacking s → Err number ≡ heard_in s (paste carry s.have (take n rest) (length (take n rest)))
+      → call ≡ call_of (failed_by s number n) → (call ≡ call_of (step_of (lent s carry) rest)) × (replicate 200 0 ≡ (step_of (lent s carry) rest).reader.carry)
+  step_failed carry n number call e w same = rw (settles e w carry (inr refl), same, e) (refl, refl)
 
 -- ## The loop
 

@@ -1,5 +1,5 @@
 -- `compare` meets its contract: at each turn the blocks still to come give the answer (proofs/Comparing). Assumes nothing.
-use mathlib.Core.Path.{refl, sym}
+use mathlib.Core.Path.{refl, sym, ◌∙◌}
 use native.Mathlib.Omega.{arith}
 use Rattle.std.proofs.Common.{rules}
 use Rattle.audit.proofs.Comparing.{left_begins, left_room, not_listed, chunks_room, decided, next_block}
@@ -24,8 +24,9 @@ pub slice_bounds-chunks-end : goal.slice_bounds-chunks-end
 slice_bounds-chunks-end c = let room = chunks_room _ _ _ _ c.loop-segment.invariant _ c.read-head.ensures (sym c.if-is_ones.ensures) in search rules
 
 pub returns-then-same_hash : goal.returns-then-same_hash
-returns-then-same_hash c =
-    decided _ _ _ _ c.loop-segment.invariant _ c.read-head.ensures (sym c.if-is_ones.ensures) (sym c.if-same_hash.ensures) c.requires.start_end _ refl _ c.is_true.ensures
+returns-then-same_hash c = λ ys s.
+    search rules
+    ∙ decided _ _ _ _ c.loop-segment.invariant _ c.read-head.ensures (sym c.if-is_ones.ensures) (sym c.if-same_hash.ensures) c.requires.start_end _ refl _ c.is_true.ensures ys s
 
 pub loop-segment-smaller : goal.loop-segment-smaller
 loop-segment-smaller c = omega (arith, left_room _ _ _ _ c.loop-segment.invariant)

@@ -6,7 +6,7 @@ use Rattle.shardline.proofs.feed.fed.Goals as goal
 
 pub returns-then-step-eq0-clause-all : goal.returns-then-step-eq0-clause-all
 returns-then-step-eq0-clause-all c =
-    so_refused _ _ _ _ c.loop-rest.invariant _ c.step-step.ensures (search rules) c.if-step-eq0.true
+    so_refused _ _ _ _ c.loop-rest.invariant _ c.step-step.ensures (search rules) (omega (arith, c.if-step-eq0.true))
 
 pub slice_bounds-rest-count : goal.slice_bounds-rest-count
 slice_bounds-rest-count c = within _ _ _ _ c.loop-rest.invariant _ c.step-step.ensures
@@ -21,7 +21,7 @@ loop-rest-smaller c =
 
 pub loop-rest-preserved : goal.loop-rest-preserved
 loop-rest-preserved c =
-    so_on _ _ _ _ c.loop-rest.invariant _ c.step-step.ensures c.if-step-eq0.false
+    so_on _ _ _ _ c.loop-rest.invariant _ c.step-step.ensures (λ e. omega (arith, c.if-step-eq0.false, e))
 
 pub returns-clause-all : goal.returns-clause-all
 returns-clause-all c = so_done _ _ _ _ c.loop-rest.invariant (search rules)
