@@ -32,7 +32,7 @@ footer_found = record_out (record_of at_footer (words 1 0 2 0))
 abbrev header_found : RecordState
 header_found = record_out (record_of start (words 2 0 200 0))
 
--- a call that found a record of 48 bytes, one that was refused, one that kept its bytes, and a read of two records
+-- a call that found a record of 48 bytes, one that was refused, one that kept its bytes, a read of two records, and one that was refused behind a record
 abbrev segment_found : Record
 segment_found = record_of at_segment (words 0 7 5 6)
 
@@ -47,6 +47,9 @@ kept_call = record { taken = 40; found = Ok None }
 
 abbrev two_rows : ReadState
 two_rows = read_out 96 2 (Ok ended.TableFull)
+
+abbrev refused_rows : ReadState
+refused_rows = read_out 96 1 (Err (refusal_at 10 at_segment))
 
 abbrev chunk_hit : ChunkAnswer
 chunk_hit = the_chunk (record { 0 = 1 }) (record { 0 = 2 }) (record { 0 = 240 })
@@ -106,6 +109,12 @@ wrongs =
     ∷ (two_rows.count not 96 by number)
     -- no byte taken
     ∷ (two_rows.taken not 0 by number)
+    -- a full table said to be a refusal; a refusal said to be a full table
+    ∷ (two_rows.said not 2 by number)
+    ∷ (refused_rows.said not 1 by number)
+    -- a refusal's number lost; its position lost
+    ∷ (refused_rows.number not 0 by number)
+    ∷ (refused_rows.at not 0 by number)
     -- ## `record_out`
     -- no position
     ∷ ((record_out segment_found).at not 0 by number)

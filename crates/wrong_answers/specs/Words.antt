@@ -14,13 +14,13 @@ ones64 = 18446744073709551615
 
 abbrev wrongs : List Wrong
 wrongs =
-    -- `u32_at`: a byte of a number is read twice
+    -- `u32::read`: a byte of a number is read twice
     (le_at 4 (1 ∷ 2 ∷ 3 ∷ 4 ∷ []) 0 not le_at 4 (1 ∷ 2 ∷ 2 ∷ 4 ∷ []) 0 by number)
-    -- `put_u32`: half of a byte goes to the next one
+    -- `u32::write`: half of a byte goes to the next one
     ∷ (spell 4 65536 not 0 ∷ 0 ∷ 2 ∷ 0 ∷ [] by numbers)
-    -- `u16_at`: read from the other end
+    -- `u16::read`: read from the other end
     ∷ (le_at 2 (1 ∷ 2 ∷ []) 0 not 258 by number)
-    -- `put_u16`: the high byte lost
+    -- `u16::write`: the high byte lost
     ∷ (spell 2 258 not 2 ∷ 0 ∷ [] by numbers)
     -- `put_part`: the part begins a byte late; a byte more is put
     ∷ (puts (zeros 4) 1 (take 2 (drop 1 (5 ∷ 6 ∷ 7 ∷ 8 ∷ []))) not 0 ∷ 7 ∷ 8 ∷ 0 ∷ [] by numbers)
